@@ -1,0 +1,73 @@
+-- Laws of bytes: the little-endian value of a part and its bound, once over the width, and when two lists are the same.
+-- Assumes nothing.
+use mathlib.Core.Path.{_≡_, refl, sym, ap, ap₂, _∙_}
+use mathlib.Core.Bool.{true}
+use mathlib.Core.List.{List, [], _∷_, _++_}
+use Prim.Native.Nat.{ℕ, zero, suc, _+_, _*_, _^_, _≤_, _<_}
+use native.Mathlib.Nat.{add-zero, zero-add, mul-one, add-assoc, add-mul, mul-assoc, pow-suc}
+use native.Mathlib.Omega.{arith}
+use borrow.Author.Tests.{eqb-true, eq-eqb}
+use lib.Dec.{lit<, eqb}
+use lib.ListN.{length, getD, take, drop, length-drop}
+use lib.Seq.{getD-drop, take-add, drop-drop, drop-cons, length-take-le}
+use Rattle.rules.specs.Bytes.{byteAt, part, le, sameBytes}
+use Rattle.rules.proofs.TestLaws.{both}
+
+pub le-append : (xs ys : List ℕ) → le (xs ++ ys) ≡ le ys * 256 ^ length xs + le xs
+unfolding le
+le-append [] ys = sym (add-zero (le ys * 1) ∙ mul-one (le ys))
+le-append (x ∷ xs) ys = rw (le-append xs ys, pow-suc) (simp (add-mul, mul-assoc, add-assoc))
+
+-- m + n bytes are the m first and the n after them
+pub part-add : (m n at : ℕ) (s : List ℕ) → at + m ≤ length s
+    → le (part (m + n) at s) ≡ le (part n (at + m) s) * 256 ^ m + le (part m at s)
+part-add m n at s h =
+    let fits : m ≤ length (drop at s) = simp length-drop (omega arith) in
+    rw (take-add, le-append, drop-drop, length-take-le m (drop at s) fits)
+
+-- a single byte is its own number
+pub part-one : (at : ℕ) (s : List ℕ) → at < length s → le (part 1 at s) ≡ byteAt s at
+unfolding le
+part-one at s h = rw (drop-cons s at 0 h) (zero-add (getD s at 0))
+
+pub length-part : (n at : ℕ) (s : List ℕ) → at + n ≤ length s → length (part n at s) ≡ n
+length-part n at s h =
+    let fits : n ≤ length (drop at s) = simp length-drop (omega arith) in
+    length-take-le n (drop at s) fits
+
+-- each element is a byte
+abbrev pub Bytes : List ℕ → Type 0
+Bytes xs = (i : ℕ) → getD xs i 0 < 256
+
+pub le-lt : (xs : List ℕ) → Bytes xs → le xs < 256 ^ length xs
+unfolding le
+le-lt [] h = lit< tt
+le-lt (x ∷ xs) h = rw pow-suc (omega (arith, h 0, le-lt xs (λ i. h (suc i))))
+
+pub bytes-drop : (n : ℕ) (xs : List ℕ) → Bytes xs → Bytes (drop n xs)
+bytes-drop n xs h i = rw getD-drop (h (n + i))
+
+pub bytes-take : (n : ℕ) (xs : List ℕ) → Bytes xs → Bytes (take n xs)
+bytes-take zero xs h i = lit< tt
+bytes-take (suc n) [] h i = lit< tt
+bytes-take (suc n) (x ∷ xs) h zero = h 0
+bytes-take (suc n) (x ∷ xs) h (suc i) = bytes-take n xs (λ j. h (suc j)) i
+
+pub bytes-part : (n at : ℕ) (xs : List ℕ) → Bytes xs → Bytes (part n at xs)
+bytes-part n at xs h = bytes-take n (drop at xs) (bytes-drop at xs h)
+
+-- ---- equality
+
+pub same-is : (xs ys : List ℕ) → sameBytes xs ys ≡ true → xs ≡ ys
+unfolding sameBytes
+same-is [] [] e = refl
+same-is [] (y ∷ ys) e = cc
+same-is (x ∷ xs) [] e = cc
+same-is (x ∷ xs) (y ∷ ys) e =
+    let h = both (eqb x y) (sameBytes xs ys) e in
+    ap₂ (λ (z : ℕ) (zs : List ℕ). z ∷ zs) (eqb-true x y (h .0)) (same-is xs ys (h .1))
+
+pub same-self : (xs : List ℕ) → sameBytes xs xs ≡ true
+unfolding sameBytes
+same-self [] = refl
+same-self (x ∷ xs) = rw (eq-eqb x x refl, same-self xs)

@@ -1,0 +1,104 @@
+-- A slot count is 16 doubled some times, its mask is a remainder, and every offset of a book fits, with slack up to 2^20 slots.
+-- Assumes nothing.
+use mathlib.Core.Path.{_≡_, refl, sym, ap, _∙_}
+use mathlib.Core.Logic.{dite}
+use mathlib.Core.Bool.{Bool, true, false, _&&_, _||_}
+use Prim.Native.Nat.{ℕ, zero, suc, _+_, _-_, _*_, _%_, _^_, _≤_, _<_}
+use native.Mathlib.Nat.{mul-le-mul, mul-le-mul-right}
+use native.Mathlib.Decide.{ℕ-discrete, decLt}
+use native.Mathlib.Omega.{arith}
+use borrow.Author.Tests.{leb-true, le-leb, eqb-true, eq-eqb}
+use lib.Bits.{bitAnd, and-mask}
+use lib.Dec.{eqb, leb}
+use lib.Pow.{pow-add, pow-mono, pow-pos}
+use Rattle.rules.specs.Layout.{slotLimit, areSizes, isPower, isSlotCount, entryAt, controlAt, total}
+use Rattle.rules.proofs.TestLaws.{impossible, both}
+
+-- the one place that knows the limit: it is at most 2^20
+pub limit-slack : slotLimit ≤ 2 ^ 20
+unfolding slotLimit
+limit-slack = omega arith
+
+-- what a slot count is
+pub record Slots (S : ℕ) : Type 0 where
+  pub log : ℕ
+  pub is : S ≡ 2 ^ log * 16
+  pub least : 16 ≤ S
+  pub most : S ≤ 2 ^ 20
+
+power-of : (n S : ℕ) → isPower n S ≡ true → (e : ℕ) × (S ≡ 2 ^ e)
+unfolding isPower
+power-of zero S t = impossible cc
+power-of (suc n) S t = go (eqb S (2 ^ n)) refl (power-of n S)
+  where
+    go : (q : Bool) → eqb S (2 ^ n) ≡ q → (isPower n S ≡ true → (e : ℕ) × (S ≡ 2 ^ e)) → (e : ℕ) × (S ≡ 2 ^ e)
+    go true f rest = (n, eqb-true S (2 ^ n) f)
+    go false f rest = rest (rw f at t)
+
+is-power : (n e : ℕ) → e < n → isPower n (2 ^ e) ≡ true
+unfolding isPower
+is-power zero e h = absurd (omega arith)
+is-power (suc n) e h = go (eqb (2 ^ e) (2 ^ n)) refl (is-power n e)
+  where
+    go : (q : Bool) → eqb (2 ^ e) (2 ^ n) ≡ q → (e < n → isPower n (2 ^ e) ≡ true) → isPower (suc n) (2 ^ e) ≡ true
+    go true f rest = rw f
+    go false f rest =
+        dite (ℕ-discrete e n) (λ q. let z : true ≡ false = sym (eq-eqb (2 ^ e) (2 ^ n) (ap (λ (x : ℕ). 2 ^ x) q)) ∙ f in cc)
+        (λ d. rw f (rest (omega arith)))
+
+doubled : (S e : ℕ) → 16 ≤ S → S ≡ 2 ^ e → (m : ℕ) × (S ≡ 2 ^ m * 16)
+doubled S e l p =
+    dite (decLt e 4) (λ h. let j : e ≤ 3 = omega arith in absurd (omega (arith, pow-mono j)))
+    (λ h. let j : e ≡ e - 4 + 4 = omega arith in (e - 4, p ∙ ap (λ (x : ℕ). 2 ^ x) j ∙ pow-add 2 (e - 4) 4))
+
+pub slots : (S : ℕ) → isSlotCount S ≡ true → Slots S
+unfolding isSlotCount
+slots S t =
+    let a = both (isPower 64 S && leb 16 S) (leb S slotLimit) t in
+    let b = both (isPower 64 S) (leb 16 S) (a .0) in
+    let e = power-of 64 S (b .0) in
+    let d = doubled S (e .0) (leb-true 16 S (b .1)) (e .1) in
+    record { log = d .0; is = d .1; least = leb-true 16 S (b .1); most = omega (arith, limit-slack, leb-true S slotLimit (a .1)) }
+
+-- and each such number up to the limit is one
+pub is-slots : (m : ℕ) → m < 60 → 2 ^ m * 16 ≤ slotLimit → isSlotCount (2 ^ m * 16) ≡ true
+unfolding isSlotCount
+is-slots m h l =
+    let p : isPower 64 (2 ^ m * 16) ≡ true = rw (← (pow-add 2 m 4)) (is-power 64 (m + 4) (omega arith)) in
+    rw (p, le-leb 16 (2 ^ m * 16) (omega (arith, pow-pos m)), le-leb (2 ^ m * 16) slotLimit l)
+
+-- x & (S - 1) is x % S
+pub mask-mod : (S : ℕ) → isSlotCount S ≡ true → (x : ℕ) → bitAnd x (S - 1) ≡ x % S
+mask-mod S t x =
+    let s = slots S t in
+    let e : S ≡ 2 ^ (s .log + 4) = s .is ∙ sym (pow-add 2 (s .log) 4) in
+    rw e (and-mask x (s .log + 4))
+
+-- ---- sums
+
+pub record Sizes (k v : ℕ) : Type 0 where
+  pub key-least : 1 ≤ k
+  pub key-most : k ≤ 255
+  pub value-most : v ≤ 255
+
+pub sizes : (k v : ℕ) → areSizes k v ≡ true → Sizes k v
+unfolding areSizes
+sizes k v t =
+    let a = both (leb 1 k && leb k 255) (leb v 255) t in
+    let b = both (leb 1 k) (leb k 255) (a .0) in
+    record { key-least = leb-true 1 k (b .0); key-most = leb-true k 255 (b .1); value-most = leb-true v 255 (a .1) }
+
+module _ (k v S : ℕ) (size : Sizes k v) (count : Slots S) where
+  pub span-fits : S * (k + v) ≤ 2 ^ 20 * 510
+  span-fits = let h : k + v ≤ 510 = omega (arith, size .key-most, size .value-most) in mul-le-mul (count .most) h
+
+  pub total-fits : total k v S < 2 ^ 29
+  total-fits = omega (arith, span-fits, count .most)
+
+  -- an entry ends before the control bytes
+  pub entry-fits : (i : ℕ) → i < S → entryAt k v i + (k + v) ≤ controlAt k v S 0
+  entry-fits i h = let e : (i + 1) * (k + v) ≤ S * (k + v) = mul-le-mul-right (k + v) (omega arith) in omega arith
+
+  -- n control positions from a slot on end with the book, up to 16 of them
+  pub group-fits : (p n : ℕ) → p < S → n ≤ 16 → controlAt k v S p + n < total k v S
+  group-fits p n h l = omega arith

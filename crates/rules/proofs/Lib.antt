@@ -1,0 +1,6 @@
+pub mod TestLaws
+pub mod BytesLaws
+pub mod FirstLaws
+pub mod LayoutLaws
+pub mod ProbeLaws
+pub mod ExamplesHold

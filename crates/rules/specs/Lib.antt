@@ -1,0 +1,11 @@
+pub mod Bytes
+pub mod First
+pub mod Layout
+pub mod Hash
+pub mod Group
+pub mod Probe
+pub mod Search
+pub mod Rows
+pub mod Calls
+pub mod Check
+pub mod Examples

@@ -1,0 +1,1 @@
+// The written rules. This crate has no code: specs/ has the definitions, proofs/ their laws.
