@@ -12,19 +12,13 @@ use lib.Bits.{bitAnd, and-mask}
 use lib.Dec.{eqb, leb}
 use lib.Pow.{pow-add, pow-mono, pow-pos}
 use Rattle.rules.specs.Layout.{slotLimit, areSizes, isPower, isSlotCount, entryAt, controlAt, total}
+use Rattle.rules.specs.Bounds.{Sizes, Slots}
 use Rattle.rules.proofs.TestLaws.{impossible, both}
 
 -- the one place that knows the limit: it is at most 2^20
 pub limit-slack : slotLimit ≤ 2 ^ 20
 unfolding slotLimit
 limit-slack = omega arith
-
--- what a slot count is
-pub record Slots (S : ℕ) : Type 0 where
-  pub log : ℕ
-  pub is : S ≡ 2 ^ log * 16
-  pub least : 16 ≤ S
-  pub most : S ≤ 2 ^ 20
 
 power-of : (n S : ℕ) → isPower n S ≡ true → (e : ℕ) × (S ≡ 2 ^ e)
 unfolding isPower
@@ -68,18 +62,12 @@ is-slots m h l =
     rw (p, le-leb 16 (2 ^ m * 16) (omega (arith, pow-pos m)), le-leb (2 ^ m * 16) slotLimit l)
 
 -- x & (S - 1) is x % S
-pub mask-mod : (S : ℕ) → isSlotCount S ≡ true → (x : ℕ) → bitAnd x (S - 1) ≡ x % S
-mask-mod S t x =
-    let s = slots S t in
+pub mask-mod : (S : ℕ) → Slots S → (x : ℕ) → bitAnd x (S - 1) ≡ x % S
+mask-mod S s x =
     let e : S ≡ 2 ^ (s .log + 4) = s .is ∙ sym (pow-add 2 (s .log) 4) in
     rw e (and-mask x (s .log + 4))
 
 -- ---- sums
-
-pub record Sizes (k v : ℕ) : Type 0 where
-  pub key-least : 1 ≤ k
-  pub key-most : k ≤ 255
-  pub value-most : v ≤ 255
 
 pub sizes : (k v : ℕ) → areSizes k v ≡ true → Sizes k v
 unfolding areSizes

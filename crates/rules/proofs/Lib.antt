@@ -3,4 +3,5 @@ pub mod BytesLaws
 pub mod FirstLaws
 pub mod LayoutLaws
 pub mod ProbeLaws
+pub mod RowLaws
 pub mod ExamplesHold

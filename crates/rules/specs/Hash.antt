@@ -30,9 +30,13 @@ eights (suc n) h bytes = eights n (mixed h (le (take 8 bytes))) (drop 8 bytes)
 unfoldable pub hashOf : List ℕ → ℕ
 hashOf bytes = eights (length bytes / 8) 0 bytes % 2 ^ 32
 
+-- the tag that a hash gives
+abbrev pub tag : ℕ → ℕ
+tag h = h / 2 ^ 25
+
 -- the tag of a key
 abbrev pub tagOf : List ℕ → ℕ
-tagOf key = hashOf key / 2 ^ 25
+tagOf key = tag (hashOf key)
 
 -- where the search for a key starts among S slots
 abbrev pub startOf : ℕ → List ℕ → ℕ

@@ -9,3 +9,4 @@ pub mod Rows
 pub mod Calls
 pub mod Check
 pub mod Examples
+pub mod Bounds

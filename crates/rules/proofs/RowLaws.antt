@@ -1,0 +1,46 @@
+-- What passing rows 1 to 10, or the rows of initialising, says of a book. Assumes nothing.
+use mathlib.Core.Path.{_≡_, refl}
+use mathlib.Core.Bool.{Bool, true, false, not}
+use mathlib.Core.List.{List, [], _∷_}
+use mathlib.Core.Option.{Option, none, some}
+use Prim.Native.Nat.{ℕ, zero, suc}
+use borrow.Author.Tests.{eqb-true}
+use lib.Dec.{eqb}
+use lib.ListN.{length, getD}
+use Rattle.rules.specs.First.{firstSome}
+use Rattle.rules.specs.Layout.{areSizes, isSlotCount, total, slotCount}
+use Rattle.rules.specs.Rows.{Refusal, refusal, rowIf, headerRows, initRows}
+use Rattle.rules.specs.Bounds.{Passed}
+use Rattle.rules.proofs.TestLaws.{impossible}
+use Rattle.rules.proofs.LayoutLaws.{sizes, slots}
+
+-- where the first that applies is none, no row applies
+pub none-at : (rows : List (Option Refusal)) → firstSome rows ≡ none → (i : ℕ) → getD rows i none ≡ none
+unfolding firstSome
+none-at [] e i = refl
+none-at (none ∷ rows) e zero = refl
+none-at (none ∷ rows) e (suc i) = none-at rows e i
+none-at (some r ∷ rows) e i = impossible cc
+
+-- a row that refuses what does not pass a test: it does not apply, so the test is passed
+pub passes : (n : ℕ) (test : Bool) → rowIf n (not test) ≡ none → test ≡ true
+passes n true e = refl
+passes n false e = impossible cc
+
+module _ (s : List ℕ) (k v : ℕ) (e : firstSome (headerRows s k v) ≡ none) where
+  pub passed : Passed s k v (slotCount s)
+  unfolding headerRows
+  passed = record {
+    sizes = sizes k v (passes 1 (areSizes k v) (none-at (headerRows s k v) e 0));
+    slots = slots (slotCount s) (passes 9 (isSlotCount (slotCount s)) (none-at (headerRows s k v) e 8));
+    long = eqb-true (length s) (total k v (slotCount s)) (passes 10 (eqb (length s) (total k v (slotCount s))) (none-at (headerRows s k v) e 9));
+  }
+
+module _ (s : List ℕ) (k v S : ℕ) (e : firstSome (initRows s k v S) ≡ none) where
+  pub init-passed : Passed s k v S
+  unfolding initRows
+  init-passed = record {
+    sizes = sizes k v (passes 1 (areSizes k v) (none-at (initRows s k v S) e 0));
+    slots = slots S (passes 9 (isSlotCount S) (none-at (initRows s k v S) e 1));
+    long = eqb-true (length s) (total k v S) (passes 10 (eqb (length s) (total k v S)) (none-at (initRows s k v S) e 2));
+  }
