@@ -5,7 +5,8 @@ import io
 import os
 import re
 import sys
-from itertools import islice
+from functools import partial
+from itertools import chain, islice
 from typing import NamedTuple
 
 # ---- The bytes of a book
@@ -651,28 +652,71 @@ def told(content):
     """The answers to a list of calls given as bytes."""
     return list(answers(io.BytesIO(content)))
 
+def came(ask):
+    """What a case gives; a mistake in the program is an answer too, and a wrong one."""
+    try:
+        return ask()
+    except Exception as error:
+        return repr(error)
+
 def script_cases():
-    """The script's cases, each a name, the expected answer and what gives the answer that comes."""
+    """The script's cases, to be asked one by one as they come; the steps between them are made here."""
     book, heading = bytearray(), ""
-    for text in SCRIPT.split("\n"):
+    for text in SCRIPT.splitlines():
         if text.startswith("# "):
             heading = text[2:]
             continue
         for step in filter(None, text.split("; ")):
             call, arrow, expected = step.partition(" -> ")
+            ask = partial(answer_line, book, call.encode())
             if arrow:
-                yield f"{heading}: {call}", expected, lambda: answer_line(book, call.encode())
+                yield f"{heading}: {call}", expected, ask
             else:
-                answer_line(book, call.encode())
+                came(ask)
+
+def idle_cases():
+    """For each idle call, whether the book is the same before and after."""
+    setting = f"{MADE}; {re.sub(' -> [^;]*', '', SIXTEEN)}".replace("; ", "\n")
+    for call in IDLE:
+        content = f"{setting}\nbytes\n{call}\nbytes".encode()
+        yield f"bytes kept by {call}", True, lambda: told(content)[-3] == told(content)[-1]
+
+def bad_cases():
+    """For each bad line, its answer between two that show the book."""
+    for line in BAD_LINES:
+        yield f"line {line[:40]!r}", ["ok 2", "bad", "00ff"], partial(told, b"book 00ff\n%b\nbytes\n" % line)
 
 def self_test():
-    """Runs every case, prints those that fail and the totals, and gives the exit status."""
-    sixteen = (MADE + "; " + re.sub(" -> [^;]*", "", SIXTEEN)).replace("; ", "\n")
-    grammar = [(f"{line[:40]!r}", ["ok 2", "bad", "00ff"], lambda line=line: told(b"book 00ff\n%b\nbytes" % line))
-               for line in BAD_LINES]
-    idle = [(f"bytes kept by {call}", told(f"{sixteen}\nbytes".encode())[-1],
-             lambda call=call: told(f"{sixteen}\n{call}\nbytes".encode())[-1]) for call in IDLE]
+    """Asks every case, prints those that fail and then the totals, and gives the exit status."""
     passed = failed = 0
-    for asked, expected, ask in [*FACTS, *grammar, *idle]:
-        pass
+    for asked, expected, ask in chain(script_cases(), FACTS, bad_cases(), idle_cases()):
+        answer = came(ask)
+        if answer == expected:
+            passed += 1
+        else:
+            failed += 1
+            print(f"{asked}: expected {expected}, came {answer}")
+    print(f"{passed} passed, {failed} failed")
+    return 1 if failed else 0
+
+def serve():
+    """Answers standard input on standard output; if either is closed there is nothing to do."""
+    if sys.stdin and sys.stdout:
+        for answer in answers(sys.stdin.buffer):
+            sys.stdout.buffer.write(answer.encode("ascii") + b"\n")
+            sys.stdout.buffer.flush()
     return 0
+
+def main(arguments):
+    """Does what the arguments ask, and gives the exit status."""
+    if arguments not in ([], ["--self-test"]):
+        print("usage: model.py [--self-test]", file=sys.stderr)
+        return 2
+    try:
+        return self_test() if arguments else serve()
+    except BrokenPipeError:
+        os.dup2(os.open(os.devnull, os.O_WRONLY), 1)  # else the flush at exit complains
+        return 0
+
+if __name__ == "__main__":
+    sys.exit(main(sys.argv[1:]))
