@@ -3,6 +3,7 @@ pub mod BytesLaws
 pub mod FirstLaws
 pub mod LayoutLaws
 pub mod HashLaws
+pub mod GroupLaws
 pub mod ProbeLaws
 pub mod RowLaws
 pub mod ExamplesHold
