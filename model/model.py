@@ -6,7 +6,7 @@ import os
 import re
 import sys
 from functools import partial
-from itertools import chain, islice
+from itertools import chain, islice, takewhile
 from typing import NamedTuple
 
 # ---- The bytes of a book
@@ -240,7 +240,7 @@ def slot_fault(book, K, V, slots):
             return wrong_tag(slot, tag, controls[slot])
     return None
 
-# The order of each list is the order of testing: the first row that applies wins.
+# Rows are asked from the top of a list, and the first refusal ends it.
 BOOK_ROWS = [
     plain_row(1, lambda book, K, V: not sizes_allowed(K, V)),
     plain_row(2, lambda book, K, V: len(book) < HEADER),
@@ -275,12 +275,9 @@ def occupied_slots(controls):
 def reachable(controls, b, slot):
     """Whether, in the probe order from b, no window before the slot's own has an empty slot."""
     order = probe_order(b, len(controls))
-    while window := list(islice(order, WINDOW)):
-        if slot in window:
-            return True
-        if any(is_empty(controls[each]) for each in window):
-            return False
-    return False
+    windows = iter(lambda: list(islice(order, WINDOW)), [])
+    before = takewhile(lambda window: slot not in window, windows)
+    return not any(is_empty(controls[each]) for window in before for each in window)
 
 def mirror_fault(book, K, V):
     """Refusal 15 at the first mirror that differs from its control byte."""
@@ -572,9 +569,10 @@ poke 44 00; poke 70 ff; poke 86 ff; check 1 1 -> no 16 9 0 0 0
 {MADE}; insert 1 1 00 00 00 -> new 0 1 00; check 1 1 -> ok; find 1 1 00 -> at 0 1
 # reach at 16 slots: 11 alone in slot 7
 {MADE}; poke 46 11; poke 71 4c; poke 87 4c; check 1 1 -> ok; find 1 1 11 -> at 7 1
-# reach at 32 slots: 01 starts at 21, so its first window ends with slot 4
+# reach at 32 slots: 01 starts at 21, so its first window ends with slot 4; 10 starts at 16, the first without mirror
 {MADE_32}; poke 40 01; poke 100 13; poke 132 13; check 1 1 -> ok; find 1 1 01 -> absent 1
 poke 40 00000100; poke 100 ff13; poke 132 ff13; check 1 1 -> no 17 5 0 0 0; open 1 1 -> ok
+insert 1 1 10 00 00 -> new 16 1 00; find 1 1 10 -> at 16 1; check 1 1 -> no 17 5 0 0 0
 poke 32 01; poke 96 13; poke 128 13; check 1 1 -> no 16 5 0 0 0
 # 21x mod 32 is a start: 28 for 0c, 21 for 01 to e1, 29 for 09 to e9; e1 comes to its third group
 {MADE_32}; insert 1 1 0c 00 00 -> new 28 1 00
@@ -641,6 +639,7 @@ FACTS = [
      lambda: told(MADE.replace("; ", "\n").encode() + b"".join(b"\nfind 1 1 %02x" % x for x in range(256)))[2:]),
     ("no calls", [], lambda: told(b"")),
     ("a last line without newline", ["ok 1", "00"], lambda: told(b"book 00\nbytes")),
+    ("a last line of 131,072 bytes", ["part -"], lambda: told(b"value 1 1 " + b"0" * 131_062)),
     ("empty lines", ["bad", "bad"], lambda: told(b"\n\n")),
     ("a line of 131,072 bytes", ["part -", "-"], lambda: told(b"value 1 1 " + b"0" * 131_062 + b"\nbytes")),
     ("a line of 131,073 bytes", ["bad", "-"], lambda: told(b"book " + b"0" * 131_068 + b"\nbytes\n")),

@@ -6,4 +6,5 @@ pub mod HashLaws
 pub mod GroupLaws
 pub mod ProbeLaws
 pub mod RowLaws
+pub mod SearchLaws
 pub mod ExamplesHold
