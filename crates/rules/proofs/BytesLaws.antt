@@ -1,12 +1,14 @@
 -- Laws of bytes: the little-endian value of a part and its bound, once over the width, and when two lists are the same.
 -- Assumes nothing.
 use mathlib.Core.Path.{_≡_, refl, sym, ap, ap₂, _∙_}
-use mathlib.Core.Bool.{true}
+use mathlib.Core.Bool.{Bool, true, false, _&&_}
+use mathlib.Core.Logic.{dite}
 use mathlib.Core.List.{List, [], _∷_, _++_}
 use Prim.Native.Nat.{ℕ, zero, suc, _+_, _*_, _^_, _≤_, _<_}
 use native.Mathlib.Nat.{add-zero, zero-add, mul-one, add-assoc, add-mul, mul-assoc, pow-suc}
 use native.Mathlib.Omega.{arith}
-use borrow.Author.Tests.{eqb-true, eq-eqb}
+use native.Mathlib.Decide.{ℕ-discrete}
+use borrow.Author.Tests.{eqb-true, eq-eqb, ne-eqb}
 use lib.Dec.{lit<, eqb}
 use lib.ListN.{length, getD, take, drop, length-drop}
 use lib.Seq.{getD-drop, take-add, drop-drop, drop-cons, length-take-le}
@@ -71,3 +73,21 @@ pub same-self : (xs : List ℕ) → sameBytes xs xs ≡ true
 unfolding sameBytes
 same-self [] = refl
 same-self (x ∷ xs) = rw (eq-eqb x x refl, same-self xs)
+
+same-digits : (a b x y : ℕ) → x < 256 → y < 256 → eqb (a * 256 + x) (b * 256 + y) ≡ eqb x y && eqb a b
+same-digits a b x y hx hy =
+    let differ : (a * 256 + x ≡ b * 256 + y → ⊥) → eqb (a * 256 + x) (b * 256 + y) ≡ false = ne-eqb (a * 256 + x) (b * 256 + y) in
+    dite (ℕ-discrete x y)
+    (λ e. dite (ℕ-discrete a b) (λ f. rw (eq-eqb x y e, eq-eqb a b f) (eq-eqb (a * 256 + x) (b * 256 + y) (omega arith)))
+    (λ d. rw (eq-eqb x y e, ne-eqb a b d) (differ (λ h. d (omega arith)))))
+    (λ d. rw (ne-eqb x y d) (differ (λ h. d (omega arith))))
+
+-- of one length, bytes have the same number exactly when they are the same
+pub same-number : (xs ys : List ℕ) → length xs ≡ length ys → Bytes xs → Bytes ys → eqb (le xs) (le ys) ≡ sameBytes xs ys
+unfolding le sameBytes
+same-number [] [] l hx hy = refl
+same-number [] (y ∷ ys) l hx hy = absurd (omega arith)
+same-number (x ∷ xs) [] l hx hy = absurd (omega arith)
+same-number (x ∷ xs) (y ∷ ys) l hx hy =
+    same-digits (le xs) (le ys) x y (hx 0) (hy 0)
+    ∙ ap (λ (t : Bool). eqb x y && t) (same-number xs ys (omega arith) (λ i. hx (suc i)) (λ i. hy (suc i)))
