@@ -3,12 +3,12 @@
 use mathlib.Core.Path.{_≡_, refl, sym, ap, _∙_}
 use mathlib.Core.Logic.{dite}
 use mathlib.Core.Bool.{Bool, true, false, _&&_, _||_}
-use Prim.Native.Nat.{ℕ, zero, suc, _+_, _-_, _*_, _%_, _^_, _≤_, _<_}
-use native.Mathlib.Nat.{mul-le-mul, mul-le-mul-right}
+use Prim.Native.Nat.{ℕ, zero, suc, _+_, _-_, _*_, _/_, _%_, _^_, _≤_, _<_}
+use native.Mathlib.Nat.{add-zero, mod-self, mul-le-mul, mul-le-mul-right}
 use native.Mathlib.Decide.{ℕ-discrete, decLt}
 use native.Mathlib.Omega.{arith}
-use borrow.Author.Tests.{leb-true, le-leb, eqb-true, eq-eqb}
-use lib.Bits.{bitAnd, and-mask}
+use borrow.Author.Tests.{leb-true, le-leb, eqb-true, eq-eqb, ne-eqb}
+use lib.Bits.{bitAnd, and-step, and-self, and-mask}
 use lib.Dec.{eqb, leb}
 use lib.Pow.{pow-add, pow-mono, pow-pos}
 use Rattle.rules.specs.Layout.{slotLimit, areSizes, isPower, isSlotCount, entryAt, controlAt, total}
@@ -66,6 +66,41 @@ pub mask-mod : (S : ℕ) → Slots S → (x : ℕ) → bitAnd x (S - 1) ≡ x % 
 mask-mod S s x =
     let e : S ≡ 2 ^ (s .log + 4) = s .is ∙ sym (pow-add 2 (s .log) 4) in
     rw e (and-mask x (s .log + 4))
+
+-- ---- a power of two has one binary digit, which S & (S - 1) takes away
+
+odd : (x : ℕ) → x % 2 ≡ 1 → bitAnd x (x - 1) ≡ x / 2 * 2
+odd x o =
+    let q : (x - 1) / 2 ≡ x / 2 = omega arith in
+    let r : (x - 1) % 2 ≡ 0 = omega arith in
+    and-step x (x - 1) ∙ rw (q, r, o, and-self (x / 2), add-zero)
+
+even : (x : ℕ) → 0 < x → x % 2 ≡ 0 → bitAnd x (x - 1) ≡ bitAnd (x / 2) (x / 2 - 1) * 2
+even x p z =
+    let q : (x - 1) / 2 ≡ x / 2 - 1 = omega arith in
+    let r : (x - 1) % 2 ≡ 1 = omega arith in
+    and-step x (x - 1) ∙ rw (q, r, z, add-zero)
+
+one-digit : (n x : ℕ) → 0 < x → x < 2 ^ n → bitAnd x (x - 1) ≡ 0 → (e : ℕ) × (e < n) × (x ≡ 2 ^ e)
+one-digit zero x p h z = absurd (omega arith)
+one-digit (suc n) x p h z =
+    dite (ℕ-discrete (x % 2) 1) (λ o. (0, omega arith, omega (arith, odd x o)))
+    (λ o. let f : x % 2 ≡ 0 = omega arith in
+    let r = one-digit n (x / 2) (omega arith) (omega arith) (omega (arith, even x p f)) in
+    (suc (r .0), omega (arith, r .1), omega (arith, r .2)))
+
+digit-off : (S e : ℕ) → S ≡ 2 ^ e → bitAnd S (S - 1) ≡ 0
+digit-off S e p = rw p (and-mask (2 ^ e) e ∙ mod-self (2 ^ e))
+
+pub power-test : (n S : ℕ) → 0 < S → S < 2 ^ n → eqb (bitAnd S (S - 1)) 0 ≡ isPower n S
+power-test n S p h =
+    dite (ℕ-discrete (bitAnd S (S - 1)) 0)
+    (λ z. let d = one-digit n S p h z in eq-eqb (bitAnd S (S - 1)) 0 z ∙ sym (ap (isPower n) (d .2) ∙ is-power n (d .0) (d .1)))
+    (λ f. ne-eqb (bitAnd S (S - 1)) 0 f ∙ sym (go (isPower n S) refl f))
+  where
+    go : (q : Bool) → isPower n S ≡ q → (bitAnd S (S - 1) ≡ 0 → ⊥) → isPower n S ≡ false
+    go true t f = let e = power-of n S t in absurd (f (digit-off S (e .0) (e .1)))
+    go false t f = t
 
 -- ---- sums
 
