@@ -1,4 +1,4 @@
--- A slot count is 16 doubled some times, its mask is a remainder, and every offset of a book fits, with slack up to 2^20 slots.
+-- A slot count is 16 doubled some times, its mask is a remainder, a mask tells it, and every offset of a book fits, with slack up to 2^20 slots.
 -- Assumes nothing.
 use mathlib.Core.Path.{_≡_, refl, sym, ap, _∙_}
 use mathlib.Core.Logic.{dite}
@@ -111,9 +111,12 @@ sizes k v t =
     let b = both (leb 1 k) (leb k 255) (a .0) in
     record { key-least = leb-true 1 k (b .0); key-most = leb-true k 255 (b .1); value-most = leb-true v 255 (a .1) }
 
+pub entries-fit : (k v n : ℕ) → Sizes k v → n ≤ 2 ^ 20 → n * (k + v) ≤ 2 ^ 20 * 510
+entries-fit k v n size l = let h : k + v ≤ 510 = omega (arith, size .key-most, size .value-most) in mul-le-mul l h
+
 module _ (k v S : ℕ) (size : Sizes k v) (count : Slots S) where
   pub span-fits : S * (k + v) ≤ 2 ^ 20 * 510
-  span-fits = let h : k + v ≤ 510 = omega (arith, size .key-most, size .value-most) in mul-le-mul (count .most) h
+  span-fits = entries-fit k v S size (count .most)
 
   pub total-fits : total k v S < 2 ^ 29
   total-fits = omega (arith, span-fits, count .most)

@@ -1,0 +1,6 @@
+-- What the answers of this crate say, in the numbers of document 01.
+use Rattle.rules.specs.Rows as rows
+use Rattle.memory_layout.specs.declared.refusal.Refusal.{Refusal}
+
+unfoldable pub saidRefusal : Refusal → rows.Refusal
+saidRefusal r = record { row = r .row; slot = r .slot; expected = r .expected; found = r .found; count = r .count }

@@ -1,0 +1,3 @@
+// The bytes of a book.
+pub mod kinds;
+pub mod refusal;
