@@ -619,7 +619,8 @@ BAD_LINES = [
 ]
 
 FACTS = [
-    ("starts at S = 16", [5, 15, 5, 15, 0], lambda: [start_of(bytes([x]), 16) for x in (1, 3, 0x11, 0x13, 0)]),
+    *[(f"start of {x:02x} at S = 16", start, lambda x=x: start_of(bytes([x]), 16))
+      for x, start in [(0x01, 5), (0x03, 15), (0x11, 5), (0x13, 15), (0x00, 0)]],
     ("group 05 04, six 14", [0, 1], lambda: query(bytes.fromhex("0504141414141414"), 5)),
     ("group 04 05, six 14", [1], lambda: query(bytes.fromhex("0405141414141414"), 5)),
     ("group 05 04 04, five 14", [0, 1, 2], lambda: query(bytes.fromhex("0504041414141414"), 5)),
