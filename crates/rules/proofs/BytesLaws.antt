@@ -6,6 +6,7 @@ use mathlib.Core.Logic.{dite}
 use mathlib.Core.List.{List, [], _∷_, _++_}
 use Prim.Native.Nat.{ℕ, zero, suc, _+_, _*_, _^_, _≤_, _<_}
 use native.Mathlib.Nat.{add-zero, zero-add, mul-one, add-assoc, add-mul, mul-assoc, pow-suc}
+use native.Mathlib.Numerals.{add-one}
 use native.Mathlib.Omega.{arith}
 use native.Mathlib.Decide.{ℕ-discrete}
 use borrow.Author.Tests.{eqb-true, eq-eqb, ne-eqb}
@@ -13,7 +14,7 @@ use lib.Dec.{lit<, eqb}
 use lib.ListN.{length, getD, take, drop, length-drop}
 use lib.Seq.{getD-drop, take-add, drop-drop, drop-cons, length-take-le}
 use Rattle.rules.specs.Bytes.{byteAt, part, le, sameBytes}
-use Rattle.rules.proofs.TestLaws.{both}
+use Rattle.rules.proofs.TestLaws.{both, and-false}
 
 pub le-append : (xs ys : List ℕ) → le (xs ++ ys) ≡ le ys * 256 ^ length xs + le xs
 unfolding le
@@ -91,3 +92,17 @@ same-number (x ∷ xs) [] l hx hy = absurd (omega arith)
 same-number (x ∷ xs) (y ∷ ys) l hx hy =
     same-digits (le xs) (le ys) x y (hx 0) (hy 0)
     ∙ ap (λ (t : Bool). eqb x y && t) (same-number xs ys (omega arith) (λ i. hx (suc i)) (λ i. hy (suc i)))
+
+-- lists of different lengths are not the same
+pub same-lengths : (xs ys : List ℕ) → (length xs ≡ length ys → ⊥) → sameBytes xs ys ≡ false
+unfolding sameBytes
+same-lengths [] [] n = absurd (n refl)
+same-lengths [] (y ∷ ys) n = refl
+same-lengths (x ∷ xs) [] n = refl
+same-lengths (x ∷ xs) (y ∷ ys) n = rw (same-lengths xs ys (λ e. n (ap suc e))) (and-false (eqb x y))
+
+-- from a place on: the byte there, and what comes after it
+pub same-step : (xs ys : List ℕ) (i : ℕ) → i < length xs → i < length ys
+    → sameBytes (drop i xs) (drop i ys) ≡ eqb (byteAt xs i) (byteAt ys i) && sameBytes (drop (i + 1) xs) (drop (i + 1) ys)
+unfolding sameBytes
+same-step xs ys i h l = rw (drop-cons xs i 0 h, drop-cons ys i 0 l, add-one)

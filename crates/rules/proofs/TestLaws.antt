@@ -12,3 +12,7 @@ pub both : (p q : Bool) → p && q ≡ true → (p ≡ true) × (q ≡ true)
 both true true e = (refl, refl)
 both true false e = impossible cc
 both false q e = impossible cc
+
+pub and-false : (p : Bool) → p && false ≡ false
+and-false true = refl
+and-false false = refl

@@ -9,7 +9,7 @@ use lib.Seq.{sets}
 use Rattle.rules.specs.First.{numbers, firstOf, firstSome}
 use Rattle.rules.specs.Layout.{entryAt, valueAt, controlAt, slotCount, valueOf, control, occupied, freshBook}
 use Rattle.rules.specs.Hash.{tagOf}
-use Rattle.rules.specs.Search.{Spot, same, free, full, search}
+use Rattle.rules.specs.Search.{Spot, same, free, full, spotOf}
 use Rattle.rules.specs.Rows.{Refusal, refusal, noEnd, rowIf, headerRows, initRows, slotRows, fits}
 
 -- what a call answers
@@ -59,7 +59,7 @@ findSays (free i n) = absent n
 findSays (full n) = absent n
 
 unfoldable pub findAnswer : List ℕ → ℕ → ℕ → List ℕ → Answer
-findAnswer s k v key = answered (findRows s k v key) (findSays (search s k v (slotCount s) key))
+findAnswer s k v key = answered (findRows s k v key) (findSays (spotOf s k v (slotCount s) key))
 
 -- the value bytes of the slot that a search found, or the empty part
 unfoldable pub valueIn : List ℕ → ℕ → ℕ → Spot → List ℕ
@@ -68,7 +68,7 @@ valueIn s k v (free i n) = []
 valueIn s k v (full n) = []
 
 unfoldable pub valuePart : List ℕ → ℕ → ℕ → List ℕ → List ℕ
-valuePart s k v key = leaves (findRows s k v key) [] (valueIn s k v (search s k v (slotCount s) key))
+valuePart s k v key = leaves (findRows s k v key) [] (valueIn s k v (spotOf s k v (slotCount s) key))
 
 -- the rows of insert before it searches; `old` is the third buffer
 unfoldable pub insertRows : List ℕ → ℕ → ℕ → List ℕ → List ℕ → List ℕ → List (Option Refusal)
@@ -99,13 +99,13 @@ oldValue s k v old (full n) = old
 
 module _ (s : List ℕ) (k v : ℕ) (key value old : List ℕ) where
   unfoldable pub insertAnswer : Answer
-  insertAnswer = answered (insertRows s k v key value old) (insertSays (search s k v (slotCount s) key))
+  insertAnswer = answered (insertRows s k v key value old) (insertSays (spotOf s k v (slotCount s) key))
 
   unfoldable pub insertBook : List ℕ
-  insertBook = leaves (insertRows s k v key value old) s (written s k v (slotCount s) key value (search s k v (slotCount s) key))
+  insertBook = leaves (insertRows s k v key value old) s (written s k v (slotCount s) key value (spotOf s k v (slotCount s) key))
 
   unfoldable pub insertOld : List ℕ
-  insertOld = leaves (insertRows s k v key value old) old (oldValue s k v old (search s k v (slotCount s) key))
+  insertOld = leaves (insertRows s k v key value old) old (oldValue s k v old (spotOf s k v (slotCount s) key))
 
 -- an occupied slot with its control byte, or done
 unfoldable pub nextSays : List ℕ → ℕ → ℕ → ℕ → Option ℕ → Answer

@@ -41,6 +41,6 @@ module _ (w : ℕ) (query : ℕ → List ℕ → List Bool) (s : List ℕ) (k v 
   unfoldable pub searchBy : Spot
   searchBy = searchFrom (S / w) 0
 
--- eight control bytes at a time
-abbrev pub search : List ℕ → ℕ → ℕ → ℕ → List ℕ → Spot
-search s k v S key = searchBy 8 reports s k v S key
+-- where the search for a key ends, with eight control bytes at a time
+abbrev pub spotOf : List ℕ → ℕ → ℕ → ℕ → List ℕ → Spot
+spotOf s k v S key = searchBy 8 reports s k v S key
