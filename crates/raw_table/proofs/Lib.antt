@@ -1,0 +1,2 @@
+pub mod SeqLaws
+pub mod TurnLaws

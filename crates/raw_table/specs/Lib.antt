@@ -1,0 +1,2 @@
+pub mod Seq
+pub mod Said

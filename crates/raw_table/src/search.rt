@@ -1,0 +1,86 @@
+// The one search of find, value and insert.
+ghost use mathlib.Core.Path.{_≡_};
+ghost use Prim.Native.Nat.{_<_};
+ghost use lib.ListN.{length};
+ghost use Rattle.rules.specs.Bounds.{Sizes, Passed};
+ghost use Rattle.rules.specs.Bytes.{sameBytes};
+ghost use Rattle.rules.specs.Layout.{keyOf};
+ghost use Rattle.rules.specs.Search.{spotOf};
+ghost use Rattle.raw_table.specs.Said.{saidSpot};
+use crate::probe::ProbeSeq;
+use group_query::First;
+use group_query::GroupQuery;
+use group_query::lowest_of;
+use group_query::without_lowest;
+use memory_layout::kinds::Position;
+use memory_layout::kinds::Slot;
+use memory_layout::kinds::control_offset;
+use memory_layout::kinds::entry_offset;
+use memory_layout::kinds::slot_of;
+
+// Where a search ends, with the number of groups examined.
+pub enum Spot {
+    Same(Slot, usize),
+    Free(Slot, usize),
+    Full(usize),
+}
+
+// Whether two keys have the same bytes.
+pub fn equals(a: &[u8], b: &[u8]) -> bool
+    ensures { λ r. ⌜ r ≡ sameBytes (now (a .entry)) (now (b .entry)) ⌝ }
+{
+    if a.len() != b.len() {
+        return false;
+    }
+    let mut i = 0;
+    while i < a.len() {
+        if a[i] != b[i] {
+            return false;
+        }
+        i += 1;
+    }
+    true
+}
+
+// Whether a slot holds the key.
+pub fn holds(book: &[u8], slot: Slot, key: &[u8], k: usize, v: usize, slots: usize) -> bool
+    requires { ⌜ Passed (now book) k v slots × (slot .0 < slots) ⌝ }
+    ensures { λ r. ⌜ r ≡ sameBytes (keyOf (now (book .entry)) k v (slot .0)) (now (key .entry)) ⌝ }
+{
+    let at = entry_offset(slot, k, v).0;
+    let end = at + k;
+    equals(&book[at..end], key)
+}
+
+pub fn search(book: &[u8], key: &[u8], k: usize, v: usize, slots: usize) -> Spot
+    requires { ⌜ Passed (now book) k v slots ⌝ }
+    ensures { λ r. ⌜ saidSpot r ≡ spotOf (now (book .entry)) k v slots (now (key .entry)) ⌝ }
+{
+    let hash = fxhash::hash(key);
+    let h2 = fxhash::h2(hash);
+    let groups = slots / 8;
+    let control = control_offset(Position(0), k, v, slots).0;
+    let mut answer = Spot::Full(groups);
+    let mut ps = ProbeSeq::new(fxhash::h1(hash), slots);
+    let mut n: usize = 0;
+    'search: while n < groups {
+        let p = ps.index;
+        let query = GroupQuery::from(book, control + p, h2);
+        let mut left = query.eq;
+        while left != 0 {
+            let slot = slot_of(Position(p), lowest_of(left), slots);
+            if holds(book, slot, key, k, v, slots) {
+                answer = Spot::Same(slot, n + 1);
+                break 'search;
+            }
+            left = without_lowest(left);
+        }
+        if let First::At(m) = query.first_empty() {
+            answer = Spot::Free(slot_of(Position(p), m, slots), n + 1);
+            break 'search;
+        }
+        ps = ps.advance(slots);
+        n += 1;
+    }
+    answer
+}
