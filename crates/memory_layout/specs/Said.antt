@@ -1,6 +1,13 @@
 -- What the answers of this crate say, in the numbers of document 01.
 use Rattle.rules.specs.Rows as rows
 use Rattle.memory_layout.specs.declared.refusal.Refusal.{Refusal}
+use Rattle.memory_layout.specs.declared.header.Header.{Header}
+use Rattle.memory_layout.specs.declared.header.Header.the-variants.{Slots, Refused}
+use Rattle.memory_layout.specs.Checked.{Checked, passed, failed}
 
 unfoldable pub saidRefusal : Refusal → rows.Refusal
 saidRefusal r = record { row = r .row; slot = r .slot; expected = r .expected; found = r .found; count = r .count }
+
+unfoldable pub saidHeader : Header → Checked
+saidHeader (Slots n) = passed n
+saidHeader (Refused r) = failed (saidRefusal r)

@@ -4,7 +4,7 @@ use mathlib.Core.Path.{_≡_, refl, sym, ap, ap₂, _∙_}
 use mathlib.Core.Bool.{Bool, true, false, _&&_}
 use mathlib.Core.Logic.{dite}
 use mathlib.Core.List.{List, [], _∷_, _++_}
-use Prim.Native.Nat.{ℕ, zero, suc, _+_, _*_, _^_, _≤_, _<_}
+use Prim.Native.Nat.{ℕ, zero, suc, _+_, _*_, _/_, _^_, _≤_, _<_}
 use native.Mathlib.Nat.{add-zero, zero-add, mul-one, add-assoc, add-mul, mul-assoc, pow-suc}
 use native.Mathlib.Numerals.{add-one}
 use native.Mathlib.Omega.{arith}
@@ -13,7 +13,7 @@ use borrow.Author.Tests.{eqb-true, eq-eqb, ne-eqb}
 use lib.Dec.{lit<, eqb}
 use lib.ListN.{length, getD, take, drop, length-drop}
 use lib.Seq.{getD-drop, take-add, drop-drop, drop-cons, length-take-le}
-use Rattle.rules.specs.Bytes.{byteAt, part, le, sameBytes}
+use Rattle.rules.specs.Bytes.{byteAt, part, le, leBytes, sameBytes}
 use Rattle.rules.proofs.TestLaws.{both, and-false}
 
 pub le-append : (xs ys : List ℕ) → le (xs ++ ys) ≡ le ys * 256 ^ length xs + le xs
@@ -106,3 +106,28 @@ pub same-step : (xs ys : List ℕ) (i : ℕ) → i < length xs → i < length ys
     → sameBytes (drop i xs) (drop i ys) ≡ eqb (byteAt xs i) (byteAt ys i) && sameBytes (drop (i + 1) xs) (drop (i + 1) ys)
 unfolding sameBytes
 same-step xs ys i h l = rw (drop-cons xs i 0 h, drop-cons ys i 0 l, add-one)
+
+-- ---- the bytes of a number
+
+pub length-leBytes : (w n : ℕ) → length (leBytes w n) ≡ w
+unfolding leBytes
+length-leBytes zero n = refl
+length-leBytes (suc w) n = ap suc (length-leBytes w (n / 256))
+
+pub bytes-leBytes : (w n : ℕ) → Bytes (leBytes w n)
+unfolding leBytes
+bytes-leBytes zero n i = lit< tt
+bytes-leBytes (suc w) n zero = omega arith
+bytes-leBytes (suc w) n (suc i) = bytes-leBytes w (n / 256) i
+
+pub le-leBytes : (w n : ℕ) → n < 256 ^ w → le (leBytes w n) ≡ n
+unfolding le leBytes
+le-leBytes zero n h = omega arith
+le-leBytes (suc w) n h =
+    let l : n < 256 ^ w * 256 = rw pow-suc at h in
+    omega (arith, le-leBytes w (n / 256) (omega arith))
+
+-- w bytes have the number n exactly when they are the bytes of n
+pub same-word : (w n : ℕ) (xs : List ℕ) → n < 256 ^ w → length xs ≡ w → Bytes xs → eqb (le xs) n ≡ sameBytes xs (leBytes w n)
+same-word w n xs h l b =
+    ap (eqb (le xs)) (sym (le-leBytes w n h)) ∙ same-number xs (leBytes w n) (l ∙ sym (length-leBytes w n)) b (bytes-leBytes w n)

@@ -1,0 +1,82 @@
+-- Each row put before the later ones, by the law `first-if`. Assumes nothing.
+use mathlib.Core.Path.{sym, _∙_}
+use borrow.Author.Needs.{needs}
+use Rattle.rules.specs.Bytes.{leBytes}
+use Rattle.rules.specs.Rows.{headerRows}
+use Rattle.memory_layout.specs.Checked.{sizeRows}
+use Rattle.memory_layout.proofs.RowNumbers.{first-if}
+use Rattle.memory_layout.proofs.header.stated_row.Statement.{statement}
+use Rattle.memory_layout.proofs.header.stated_row.Tie as tie
+use Rattle.memory_layout.proofs.header.stated_row.Reads as reads
+use Rattle.memory_layout.proofs.header.stated_row.Lts as lts
+use Rattle.fxhash.proofs.read_u64.Reads as read-u64-reads
+use Rattle.memory_layout.proofs.header.byte_not.Reads as byte-not-reads
+use Rattle.memory_layout.proofs.header.row_if.Reads as row-if-reads
+use Rattle.memory_layout.proofs.header.size_row.Reads as size-row-reads
+use Rattle.memory_layout.proofs.header.word_not.Reads as word-not-reads
+
+read-u64-requires : tie.Need-read-u64-requires
+read-u64-requires c κs = search needs
+
+size-row-requires : tie.Need-size-row-requires
+size-row-requires c κs = search needs
+
+byte-not-requires : tie.Need-byte-not-requires
+byte-not-requires c κs = search needs
+
+row-if-requires : tie.Need-row-if-requires
+row-if-requires c κs = search needs
+
+byte-not-requires-2 : tie.Need-byte-not-requires-2
+byte-not-requires-2 c κs = search needs
+
+row-if-requires-2 : tie.Need-row-if-requires-2
+row-if-requires-2 c κs = search needs
+
+byte-not-requires-3 : tie.Need-byte-not-requires-3
+byte-not-requires-3 c κs = search needs
+
+row-if-requires-3 : tie.Need-row-if-requires-3
+row-if-requires-3 c κs = search needs
+
+byte-not-requires-4 : tie.Need-byte-not-requires-4
+byte-not-requires-4 c κs = search needs
+
+row-if-requires-4 : tie.Need-row-if-requires-4
+row-if-requires-4 c κs = search needs
+
+word-not-requires : tie.Need-word-not-requires
+word-not-requires c κs = search needs
+
+row-if-requires-5 : tie.Need-row-if-requires-5
+row-if-requires-5 c κs = search needs
+
+word-not-requires-2 : tie.Need-word-not-requires-2
+word-not-requires-2 c κs = search needs
+
+row-if-requires-6 : tie.Need-row-if-requires-6
+row-if-requires-6 c κs = search needs
+
+returns : tie.Need-returns
+unfolding headerRows leBytes sizeRows
+returns c = c .row-if6 .ensures ∙ rw (c .before .word-not2 .ensures, c .before .before .row-if5 .ensures, c .before .before .before .word-not .ensures, c .before .before .before .before .row-if4 .ensures, c .before .before .before .before .before .byte-not4 .ensures, c .before .before .before .before .before .before .row-if3 .ensures, c .before .before .before .before .before .before .before .byte-not3 .ensures, c .before .before .before .before .before .before .before .before .row-if2 .ensures, c .before .before .before .before .before .before .before .before .before .byte-not2 .ensures, c .before .before .before .before .before .before .before .before .before .before .row-if .ensures, c .before .before .before .before .before .before .before .before .before .before .before .byte-not .ensures, c .before .before .before .before .before .before .before .before .before .before .before .before .size-row .ensures, c .before .before .before .before .before .before .before .before .before .before .before .before .before .read-u64 .ensures) (sym (simp first-if))
+
+pub stated-row-spec : {M : Type 1} → statement M
+stated-row-spec =
+    tie.close
+    (tie.spec
+    read-u64-requires
+    size-row-requires
+    byte-not-requires
+    row-if-requires
+    byte-not-requires-2
+    row-if-requires-2
+    byte-not-requires-3
+    row-if-requires-3
+    byte-not-requires-4
+    row-if-requires-4
+    word-not-requires
+    row-if-requires-5
+    word-not-requires-2
+    row-if-requires-6
+    returns)
