@@ -1,1 +1,3 @@
 pub mod RowNumbers
+pub mod CheckedLaws
+pub mod SaidLaws
