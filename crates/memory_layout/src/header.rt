@@ -22,9 +22,9 @@ pub enum Header {
 }
 
 // `ODHT` and 00 00 00 02, each as the number that its bytes stand for.
-const HEADER_TAG: u32 = 0x5448_444F;
+pub const HEADER_TAG: u32 = 0x5448_444F;
 
-const CURRENT_FILE_FORMAT_VERSION: u32 = 0x0200_0000;
+pub const CURRENT_FILE_FORMAT_VERSION: u32 = 0x0200_0000;
 
 const SLOT_LIMIT: u64 = 65_536;
 
