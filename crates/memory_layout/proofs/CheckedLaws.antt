@@ -15,7 +15,7 @@ use Rattle.rules.proofs.RowLaws as row-laws
 use Rattle.memory_layout.specs.declared.refusal.Refusal.{Refusal}
 use Rattle.memory_layout.specs.declared.header.Header.{Header}
 use Rattle.memory_layout.specs.declared.header.Header.the-variants.{Slots, Refused}
-use Rattle.memory_layout.specs.Checked.{Checked, passed, failed, checked}
+use Rattle.memory_layout.specs.Checked.{passed, failed, checked}
 use Rattle.memory_layout.specs.Said.{saidRefusal, saidHeader}
 
 pub record Checks (s : List ℕ) (k v n : ℕ) : Type 0 where

@@ -1,3 +1,4 @@
 pub mod RowNumbers
 pub mod CheckedLaws
 pub mod SaidLaws
+pub mod PartLaws

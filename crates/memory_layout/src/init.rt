@@ -7,9 +7,13 @@ ghost use Rattle.rules.specs.Bounds.{Sizes, Passed};
 ghost use Rattle.rules.specs.Layout.{header, freshBook};
 ghost use Rattle.rules.specs.Calls.{initAnswer, initBook};
 ghost use Rattle.memory_layout.specs.Said.{saidMade};
-use crate::header::{CURRENT_FILE_FORMAT_VERSION, HEADER_TAG, are_sizes, size_row};
+use crate::header::CURRENT_FILE_FORMAT_VERSION;
+use crate::header::HEADER_TAG;
+use crate::header::are_sizes;
+use crate::header::size_row;
 use crate::kinds;
-use crate::parts::{fill, put};
+use crate::parts::fill;
+use crate::parts::put;
 use crate::refusal;
 use crate::refusal::Refusal;
 
@@ -48,7 +52,14 @@ fn write_book(book: &mut [u8], k: usize, v: usize, slots: usize, items: u64, loa
 }
 
 // Rows 1, 9 and 10 on the arguments, before anything is written.
-pub fn init_in_place(book: &mut [u8], k: usize, v: usize, slots: usize, items: u64, load: u16) -> Made
+pub fn init_in_place(
+    book: &mut [u8],
+    k: usize,
+    v: usize,
+    slots: usize,
+    items: u64,
+    load: u16,
+) -> Made
     ensures { λ r. ⌜ saidMade r ≡ initAnswer (now (book .entry)) k v slots ⌝ }
     ensures { λ _. ⌜ now (book .exit) ≡ initBook (now (book .entry)) k v slots items load ⌝ }
 {

@@ -1,6 +1,6 @@
 // The bytes of a book: the kinds of number that count in it, its refusals, the check of its header, and a new one.
-pub mod kinds;
-pub mod refusal;
 pub mod header;
-pub mod parts;
 pub mod init;
+pub mod kinds;
+pub mod parts;
+pub mod refusal;

@@ -1,7 +1,6 @@
 -- The three tests are those of the rule. Assumes nothing.
 use mathlib.Core.Path.{refl}
 use Rattle.rules.specs.Layout.{areSizes}
-use borrow.Author.Needs.{needs}
 use Rattle.memory_layout.proofs.header.are_sizes.Statement.{statement}
 use Rattle.memory_layout.proofs.header.are_sizes.Tie as tie
 

@@ -1,7 +1,6 @@
 -- Each refusal by the tests that led there; past rows 1 and 2 the later rows decide, by the number that `stated_row` gives. Assumes nothing.
 use mathlib.Core.Path.{_≡_, sym, _∙_}
 use mathlib.Core.Bool.{true, false}
-use lib.Dec.{ltb}
 use lib.ListN.{length, drop}
 use denote.Ref.{now}
 use borrow.Author.Tests.{not-true, not-false, lt-ltb, le-ltb}

@@ -7,13 +7,6 @@ use Rattle.memory_layout.specs.Checked.{sizeRows}
 use Rattle.memory_layout.proofs.RowNumbers.{first-if}
 use Rattle.memory_layout.proofs.header.stated_row.Statement.{statement}
 use Rattle.memory_layout.proofs.header.stated_row.Tie as tie
-use Rattle.memory_layout.proofs.header.stated_row.Reads as reads
-use Rattle.memory_layout.proofs.header.stated_row.Lts as lts
-use Rattle.fxhash.proofs.read_u64.Reads as read-u64-reads
-use Rattle.memory_layout.proofs.header.byte_not.Reads as byte-not-reads
-use Rattle.memory_layout.proofs.header.row_if.Reads as row-if-reads
-use Rattle.memory_layout.proofs.header.size_row.Reads as size-row-reads
-use Rattle.memory_layout.proofs.header.word_not.Reads as word-not-reads
 
 read-u64-requires : tie.Need-read-u64-requires
 read-u64-requires c κs = search needs

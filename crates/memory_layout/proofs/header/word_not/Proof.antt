@@ -1,6 +1,6 @@
 -- Four bytes have the number n exactly when they are its bytes: the law `same-word`. Assumes nothing.
-use mathlib.Core.Path.{_≡_, ap}
-use mathlib.Core.Bool.{Bool, not}
+use mathlib.Core.Path.{ap}
+use mathlib.Core.Bool.{not}
 use denote.Ref.{now}
 use native.Mathlib.Omega.{arith}
 use Rattle.rules.proofs.BytesLaws.{bytes-part, length-part, same-word}

@@ -1,11 +1,16 @@
+-- The header and then the two filled parts are a fresh book, by the law `two-parts`. Assumes nothing.
+use mathlib.Core.Path.{_≡_, refl, sym, ap, _∙_}
+use mathlib.Core.List.{List}
+use Prim.Native.Nat.{ℕ, _+_, _*_, _-_}
+use native.Mathlib.Omega.{arith}
+use lib.ListN.{length, replicate, length-replicate}
+use denote.Ref.{now}
+use Rattle.rules.specs.Bytes.{leBytes}
+use Rattle.rules.specs.Layout.{header, freshBook}
+use Rattle.memory_layout.proofs.PartLaws.{over, two-parts}
 use borrow.Author.Needs.{needs}
 use Rattle.memory_layout.proofs.init.write_book.Statement.{statement}
 use Rattle.memory_layout.proofs.init.write_book.Tie as tie
-use Rattle.memory_layout.proofs.init.write_book.Reads as reads
-use Rattle.memory_layout.proofs.init.write_book.Lts as lts
-use Rattle.memory_layout.proofs.init.put_header.Reads as put-header-reads
-use Rattle.memory_layout.proofs.kinds.span.Reads as span-reads
-use Rattle.memory_layout.proofs.parts.fill.Reads as fill-reads
 
 span-requires : tie.Need-span-requires
 span-requires c κs = search needs
@@ -49,8 +54,30 @@ fill-requires-2 c κs = search needs
 same-length : tie.Need-same-length
 same-length c = search needs
 
+header-long : (k v S count load : ℕ) → length (header k v S count load) ≡ 32
+unfolding header leBytes
+header-long k v S count load = refl
+
 returns : tie.Need-returns
-returns c = search needs
+unfolding freshBook
+returns c =
+    let f₂ = c .before .before in
+    let f₁ = f₂ .before .before .before .before in
+    let h = f₁ .before .before .before .before in
+    let start = h .before .before .before .before in
+    let a = start .args in
+    let w = h .before .before .span .result in
+    let f = f₁ .fill .last .0 in
+    let g = f₂ .fill2 .last .0 in
+    let head = header (a .k) (a .v) (a .slots) (a .items) (a .load) in
+    let n₁ : 32 + w - 32 ≡ a .slots * (a .k + a .v) = omega arith in
+    let n₂ : 32 + w + a .slots + 16 - (32 + w) ≡ a .slots + 16 = omega arith in
+    let e₁ : f ≡ replicate (a .slots * (a .k + a .v)) 0 = f₁ .fill .ensures ∙ ap (λ (n : ℕ). replicate n 0) (sym (f₁ .before .fill-arg .given .1) ∙ n₁) in
+    let e₂ : g ≡ replicate (a .slots + 16) 255 = f₂ .fill2 .ensures ∙ ap (λ (n : ℕ). replicate n 255) (sym (f₂ .before .fill-arg2 .given .1) ∙ n₂) in
+    let l : length f ≡ 32 + w - 32 = ap length e₁ ∙ length-replicate (a .slots * (a .k + a .v)) 0 ∙ sym n₁ in
+    ap (λ (b : List ℕ). over (over b 32 (32 + w) f) (32 + w) (32 + w + a .slots + 16) g) (h .put-header .ensures)
+    ∙ two-parts (now (a .book)) head f g 32 (32 + w) (32 + w + a .slots + 16) (header-long (a .k) (a .v) (a .slots) (a .items) (a .load)) l (omega arith) (omega arith) (omega arith)
+    ∙ rw (e₁, e₂)
 
 pub write-book-spec : {M : Type 1} → statement M
 write-book-spec =
