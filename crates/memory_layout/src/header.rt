@@ -1,4 +1,4 @@
-// Rows 1 to 10, which every call on a book tests first.
+// Rows 1 to 10, which every call on a book tests first. Inside, a row is its number, and 0 is none.
 ghost use mathlib.Core.Path.{_≡_};
 ghost use mathlib.Core.Bool.{cond, not};
 ghost use mathlib.Core.Option.{some};
@@ -21,14 +21,16 @@ pub enum Header {
     Refused(Refusal),
 }
 
-// `ODHT` and 00 00 00 02, each as the number that its bytes stand for.
-pub const HEADER_TAG: u32 = 0x5448_444F;
+// `ODHT`, as the number that its bytes stand for.
+pub(crate) const HEADER_TAG: u32 = 0x5448_444F;
 
-pub const CURRENT_FILE_FORMAT_VERSION: u32 = 0x0200_0000;
+// 00 00 00 02, in the same way.
+pub(crate) const CURRENT_FILE_FORMAT_VERSION: u32 = 0x0200_0000;
 
+// The largest slot count.
 const SLOT_LIMIT: u64 = 65_536;
 
-pub fn are_sizes(k: usize, v: usize) -> bool
+pub(crate) fn are_sizes(k: usize, v: usize) -> bool
     ensures { λ r. ⌜ r ≡ areSizes k v ⌝ }
 {
     (1 <= k) & (k <= 255) & (v <= 255)
@@ -43,8 +45,6 @@ pub fn is_slot_count(n: u64) -> bool
     (n & (n - 1) == 0) & (n <= SLOT_LIMIT)
 }
 
-// Rows are numbers here, and 0 is none.
-
 // The row if it applies, or else what the later rows say.
 fn row_if(applies: bool, row: usize, later: usize) -> usize
     requires { ⌜ 0 < row ⌝ }
@@ -54,7 +54,7 @@ fn row_if(applies: bool, row: usize, later: usize) -> usize
 }
 
 // Rows 9 and 10 of a buffer. No product is made before the slot count is known to be one.
-pub fn size_row(len: usize, k: usize, v: usize, slots: u64) -> usize
+pub(crate) fn size_row(len: usize, k: usize, v: usize, slots: u64) -> usize
     requires { ⌜ Sizes k v ⌝ }
     ensures { λ r. ⌜ numbered r ≡ firstSome (sizeRows len k v slots) ⌝ }
 {
@@ -89,7 +89,7 @@ fn word_not(book: &[u8], at: usize, n: u32) -> bool
     fxhash::read_u32(book, at) != n
 }
 
-// Rows 3 to 10, the last first, each giving way to one above it.
+// Rows 3 to 10 of a book that has a whole header: from the last up, so that an earlier row that applies takes its place.
 fn stated_row(book: &[u8], k: usize, v: usize) -> usize
     requires { ⌜ Sizes k v × (32 ≤ length (now book)) ⌝ }
     ensures { λ r. ⌜ numbered r ≡ firstSome (drop 2 (headerRows (now (book .entry)) k v)) ⌝ }

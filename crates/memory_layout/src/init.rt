@@ -11,7 +11,8 @@ use crate::header::CURRENT_FILE_FORMAT_VERSION;
 use crate::header::HEADER_TAG;
 use crate::header::are_sizes;
 use crate::header::size_row;
-use crate::kinds;
+use crate::kinds::Position;
+use crate::kinds::control_offset;
 use crate::parts::fill;
 use crate::parts::put;
 use crate::refusal;
@@ -44,7 +45,7 @@ fn write_book(book: &mut [u8], k: usize, v: usize, slots: usize, items: u64, loa
     requires { ⌜ Passed (now book) k v slots ⌝ }
     ensures { λ _. ⌜ now (book .exit) ≡ freshBook k v slots items load ⌝ }
 {
-    let control = 32 + kinds::span(slots, k, v);
+    let control = control_offset(Position(0), k, v, slots).0;
     let end = control + slots + 16;
     put_header(book, k, v, slots, items, load);
     fill(&mut book[32..control], 0);

@@ -12,11 +12,8 @@ use borrow.Author.Needs.{needs}
 use Rattle.memory_layout.proofs.init.write_book.Statement.{statement}
 use Rattle.memory_layout.proofs.init.write_book.Tie as tie
 
-span-requires : tie.Need-span-requires
-span-requires c κs = search needs
-
-add-control : tie.Need-add-control
-add-control c = search needs
+control-offset-requires : tie.Need-control-offset-requires
+control-offset-requires c κs = search needs
 
 add-end : tie.Need-add-end
 add-end c = search needs
@@ -64,27 +61,25 @@ returns c =
     let f₂ = c .before .before in
     let f₁ = f₂ .before .before .before .before in
     let h = f₁ .before .before .before .before in
-    let start = h .before .before .before .before in
-    let a = start .args in
-    let w = h .before .before .span .result in
+    let m = h .before .before .control-offset .result .0 in
+    let a = h .before .before .before .before .args in
     let f = f₁ .fill .last .0 in
     let g = f₂ .fill2 .last .0 in
-    let head = header (a .k) (a .v) (a .slots) (a .items) (a .load) in
-    let n₁ : 32 + w - 32 ≡ a .slots * (a .k + a .v) = omega arith in
-    let n₂ : 32 + w + a .slots + 16 - (32 + w) ≡ a .slots + 16 = omega arith in
+    let n₁ : m - 32 ≡ a .slots * (a .k + a .v) = omega arith in
+    let n₂ : m + a .slots + 16 - m ≡ a .slots + 16 = omega arith in
     let e₁ : f ≡ replicate (a .slots * (a .k + a .v)) 0 = f₁ .fill .ensures ∙ ap (λ (n : ℕ). replicate n 0) (sym (f₁ .before .fill-arg .given .1) ∙ n₁) in
     let e₂ : g ≡ replicate (a .slots + 16) 255 = f₂ .fill2 .ensures ∙ ap (λ (n : ℕ). replicate n 255) (sym (f₂ .before .fill-arg2 .given .1) ∙ n₂) in
-    let l : length f ≡ 32 + w - 32 = ap length e₁ ∙ length-replicate (a .slots * (a .k + a .v)) 0 ∙ sym n₁ in
-    ap (λ (b : List ℕ). over (over b 32 (32 + w) f) (32 + w) (32 + w + a .slots + 16) g) (h .put-header .ensures)
-    ∙ two-parts (now (a .book)) head f g 32 (32 + w) (32 + w + a .slots + 16) (header-long (a .k) (a .v) (a .slots) (a .items) (a .load)) l (omega arith) (omega arith) (omega arith)
+    let l : length f ≡ m - 32 = ap length e₁ ∙ length-replicate (a .slots * (a .k + a .v)) 0 ∙ sym n₁ in
+    ap (λ (b : List ℕ). over (over b 32 m f) m (m + a .slots + 16) g) (h .put-header .ensures)
+    ∙ two-parts (now (a .book)) (header (a .k) (a .v) (a .slots) (a .items) (a .load)) f g 32 m (m + a .slots + 16)
+    (header-long (a .k) (a .v) (a .slots) (a .items) (a .load)) l (omega arith) (omega arith) (omega arith)
     ∙ rw (e₁, e₂)
 
 pub write-book-spec : {M : Type 1} → statement M
 write-book-spec =
     tie.close
     (tie.spec
-    span-requires
-    add-control
+    control-offset-requires
     add-end
     add-end-2
     put-header-requires
