@@ -1,2 +1,3 @@
 pub mod SeqLaws
 pub mod TurnLaws
+pub mod WriteLaws

@@ -1,3 +1,5 @@
 // The table itself: the one search, and the calls that read it.
+pub mod find;
+pub mod insert;
 pub mod probe;
 pub mod search;

@@ -117,3 +117,14 @@ module _ {A : Type 0} where
   first-earlier [] ys x e = impossible cc
   first-earlier (none ∷ xs) ys x e = first-earlier xs ys x e
   first-earlier (some y ∷ xs) ys x e = e
+
+  pub last-row : (xs : List (Option A)) (o : Option A) → firstSome xs ≡ none → firstSome (xs ++ (o ∷ [])) ≡ o
+  unfolding firstSome
+  last-row xs none e = first-later xs (none ∷ []) e
+  last-row xs (some x) e = first-later xs (some x ∷ []) e
+
+  pub none-before : (xs ys : List (Option A)) → firstSome (xs ++ ys) ≡ none → firstSome xs ≡ none
+  unfolding firstSome
+  none-before [] ys e = refl
+  none-before (none ∷ xs) ys e = none-before xs ys e
+  none-before (some x ∷ xs) ys e = e

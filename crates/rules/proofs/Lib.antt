@@ -7,4 +7,5 @@ pub mod GroupLaws
 pub mod ProbeLaws
 pub mod RowLaws
 pub mod SearchLaws
+pub mod CallLaws
 pub mod ExamplesHold

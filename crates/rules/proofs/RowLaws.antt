@@ -3,16 +3,17 @@ use mathlib.Core.Path.{_≡_, refl}
 use mathlib.Core.Bool.{Bool, true, false, not}
 use mathlib.Core.List.{List, [], _∷_}
 use mathlib.Core.Option.{Option, none, some}
-use Prim.Native.Nat.{ℕ, zero, suc}
+use Prim.Native.Nat.{ℕ, zero, suc, _+_, _^_, _≤_, _<_}
+use native.Mathlib.Omega.{arith}
 use borrow.Author.Tests.{eqb-true}
 use lib.Dec.{eqb}
 use lib.ListN.{length, getD}
 use Rattle.rules.specs.First.{firstSome}
-use Rattle.rules.specs.Layout.{areSizes, isSlotCount, total, slotCount}
+use Rattle.rules.specs.Layout.{areSizes, isSlotCount, entryAt, total, slotCount}
 use Rattle.rules.specs.Rows.{Refusal, refusal, rowIf, headerRows, initRows}
 use Rattle.rules.specs.Bounds.{Passed}
 use Rattle.rules.proofs.TestLaws.{impossible}
-use Rattle.rules.proofs.LayoutLaws.{sizes, slots}
+use Rattle.rules.proofs.LayoutLaws.{sizes, slots, entry-fits, total-fits}
 
 -- where the first that applies is none, no row applies
 pub none-at : (rows : List (Option Refusal)) → firstSome rows ≡ none → (i : ℕ) → getD rows i none ≡ none
@@ -44,3 +45,10 @@ module _ (s : List ℕ) (k v S : ℕ) (e : firstSome (initRows s k v S) ≡ none
     slots = slots S (passes 9 (isSlotCount S) (none-at (initRows s k v S) e 1));
     long = eqb-true (length s) (total k v S) (passes 10 (eqb (length s) (total k v S)) (none-at (initRows s k v S) e 2));
   }
+
+-- an entry lies within a book that passed, and the book's length is small
+pub inside : (s : List ℕ) (k v S i : ℕ) → Passed s k v S → i < S → (entryAt k v i + (k + v) ≤ length s) × (length s < 2 ^ 29)
+inside s k v S i p h = (
+  omega (arith, entry-fits k v S (p .sizes) (p .slots) i h, p .long),
+  omega (arith, total-fits k v S (p .sizes) (p .slots), p .long),
+)

@@ -4,8 +4,8 @@ use mathlib.Core.Path.{_≡_, refl, _∙_}
 use mathlib.Core.Bool.{Bool, true, false, cond}
 use mathlib.Core.List.{List, [], _∷_}
 use mathlib.Core.Option.{Option, none, some}
-use Prim.Native.Nat.{ℕ, suc, _+_, _-_, _/_, _≤_, _<_}
-use native.Mathlib.Nat.{sub-zero}
+use Prim.Native.Nat.{ℕ, zero, suc, _+_, _-_, _/_, _≤_, _<_}
+use native.Mathlib.Nat.{sub-zero, mod-lt}
 use native.Mathlib.Numerals.{add-one}
 use native.Mathlib.Omega.{arith}
 use Rattle.rules.specs.Bytes.{part, sameBytes}
@@ -58,3 +58,29 @@ module _ (w : ℕ) (query : ℕ → List ℕ → List Bool) (s : List ℕ) (k v 
     pub at-next : equalKey w query s k v S key p ≡ none → firstEmpty (part w (controlAt k v S p) s) ≡ none → Rest G n ≡ Rest G (n + 1)
     unfolding decided
     at-next f g = turn ∙ rw (f, g)
+
+-- ---- the slot of an answer is one of the S
+
+abbrev pub Below : ℕ → Spot → Type 0
+Below S (same i n) = i < S
+Below S (free i n) = i < S
+Below S (full n) = Unit {0}
+
+decided-below : (S p n : ℕ) (a b : Option ℕ) (rest : Spot) → 0 < S → Below S rest → Below S (decided S p n a b rest)
+unfolding decided
+decided-below S p n (some m) b rest h r = mod-lt (p + m) h
+decided-below S p n none (some m) rest h r = mod-lt (p + m) h
+decided-below S p n none none rest h r = r
+
+module _ (w : ℕ) (query : ℕ → List ℕ → List Bool) (s : List ℕ) (k v S : ℕ) (key : List ℕ) (h : 0 < S) where
+  from-below : (left j : ℕ) → Below S (searchFrom w query s k v S key left j)
+  unfolding searchFrom examined
+  from-below zero j = tt
+  from-below (suc left) j =
+      let p = groupStart w (startOf S key) S j in
+      decided-below S p (suc j) (equalKey w query s k v S key p) (firstEmpty (part w (controlAt k v S p) s)) (searchFrom w query s k v S key left (suc j)) h
+      (from-below left (suc j))
+
+  pub spot-below : Below S (searchBy w query s k v S key)
+  unfolding searchBy
+  spot-below = from-below (S / w) 0

@@ -1,31 +1,28 @@
 -- The part that is compared is the key of the slot's entry, which ends before the control bytes.
 use borrow.Author.Needs.{needs}
 use mathlib.Core.Path.{_≡_, ap, _∙_}
-use mathlib.Core.List.{List}
-use Prim.Native.Nat.{ℕ, _+_, _-_, _^_, _≤_}
+use Prim.Native.Nat.{ℕ, _+_, _-_, _^_, _≤_, _<_}
 use native.Mathlib.Omega.{arith}
-use lib.ListN.{take, drop}
+use lib.ListN.{length, take, drop}
 use Rattle.rules.specs.Bytes.{sameBytes}
-use Rattle.rules.specs.Layout.{entryAt, controlAt}
-use Rattle.rules.proofs.LayoutLaws.{entry-fits, total-fits}
+use Rattle.rules.proofs.RowLaws.{inside}
 use Rattle.raw_table.proofs.search.holds.Statement.{statement}
 use Rattle.raw_table.proofs.search.holds.Tie as tie
 
-inside : (c : tie.After-entry-offset)
-    → (c .entry-offset .result .0 + c .before .before .before .args .k ≤ controlAt (c .before .before .before .args .k) (c .before .before .before .args .v) (c .before .before .before .args .slots) 0)
-    × (controlAt (c .before .before .before .args .k) (c .before .before .before .args .v) (c .before .before .before .args .slots) 0 ≤ 2 ^ 29)
-inside c =
+entry-in : (c : tie.After-entry-offset)
+    → (c .entry-offset .result .0 + c .before .before .before .args .k ≤ length (c .before .before .before .args .book .now))
+    × (length (c .before .before .before .args .book .now) < 2 ^ 29)
+entry-in c =
     let a = c .before .before .before .args in
-    let p = c .before .before .before .pre .0 in
-    let f = entry-fits (a .k) (a .v) (a .slots) (p .sizes) (p .slots) (a .slot .0) (c .before .before .before .pre .1) in
-    let g = total-fits (a .k) (a .v) (a .slots) (p .sizes) (p .slots) in
-    (omega (arith, f, c .entry-offset .ensures), omega (arith, g))
+    let p = c .before .before .before .pre in
+    let i = inside (a .book .now) (a .k) (a .v) (a .slots) (a .slot .0) (p .0) (p .1) in
+    (omega (arith, i .0, c .entry-offset .ensures), i .1)
 
 entry-offset-requires : tie.Need-entry-offset-requires
 entry-offset-requires c κs = search needs
 
 add-end : tie.Need-add-end
-add-end c = omega (arith, inside c .0, inside c .1)
+add-end c = omega (arith, entry-in c .0, entry-in c .1)
 
 sub-equals : tie.Need-sub-equals
 sub-equals c = search needs
@@ -34,7 +31,7 @@ part-equals-start : tie.Need-part-equals-start
 part-equals-start c = search needs
 
 part-equals-end : tie.Need-part-equals-end
-part-equals-end c = omega (arith, inside c .0, c .before .before .before .pre .0 .long)
+part-equals-end c = omega (arith, entry-in c .0)
 
 equals-requires : tie.Need-equals-requires
 equals-requires c κs = search needs
