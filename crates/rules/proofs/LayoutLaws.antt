@@ -1,4 +1,4 @@
--- A slot count is 16 doubled some times, its mask is a remainder, a mask tells it, and every offset of a book fits, with slack up to 2^20 slots.
+-- A slot count is 16 doubled some times, its mask is a remainder, a test of one mask tells it, and every offset of a book fits, with slack up to 2^20 slots.
 -- Assumes nothing.
 use mathlib.Core.Path.{_≡_, refl, sym, ap, _∙_}
 use mathlib.Core.Logic.{dite}
@@ -7,7 +7,7 @@ use Prim.Native.Nat.{ℕ, zero, suc, _+_, _-_, _*_, _/_, _%_, _^_, _≤_, _<_}
 use native.Mathlib.Nat.{add-zero, mod-self, mul-le-mul, mul-le-mul-right}
 use native.Mathlib.Decide.{ℕ-discrete, decLt}
 use native.Mathlib.Omega.{arith}
-use borrow.Author.Tests.{leb-true, le-leb, eqb-true, eq-eqb, ne-eqb}
+use borrow.Author.Tests.{leb-true, le-leb, lt-leb, eqb-true, eq-eqb, ne-eqb}
 use lib.Bits.{bitAnd, and-step, and-self, and-mask}
 use lib.Dec.{eqb, leb}
 use lib.Pow.{pow-add, pow-mono, pow-pos}
@@ -92,7 +92,7 @@ one-digit (suc n) x p h z =
 digit-off : (S e : ℕ) → S ≡ 2 ^ e → bitAnd S (S - 1) ≡ 0
 digit-off S e p = rw p (and-mask (2 ^ e) e ∙ mod-self (2 ^ e))
 
-pub power-test : (n S : ℕ) → 0 < S → S < 2 ^ n → eqb (bitAnd S (S - 1)) 0 ≡ isPower n S
+power-test : (n S : ℕ) → 0 < S → S < 2 ^ n → eqb (bitAnd S (S - 1)) 0 ≡ isPower n S
 power-test n S p h =
     dite (ℕ-discrete (bitAnd S (S - 1)) 0)
     (λ z. let d = one-digit n S p h z in eq-eqb (bitAnd S (S - 1)) 0 z ∙ sym (ap (isPower n) (d .2) ∙ is-power n (d .0) (d .1)))
@@ -101,6 +101,26 @@ power-test n S p h =
     go : (q : Bool) → isPower n S ≡ q → (bitAnd S (S - 1) ≡ 0 → ⊥) → isPower n S ≡ false
     go true t f = let e = power-of n S t in absurd (f (digit-off S (e .0) (e .1)))
     go false t f = t
+
+and-true : (p : Bool) → p ≡ p && true
+and-true true = refl
+and-true false = refl
+
+and-false : (p : Bool) → p && false ≡ false
+and-false true = refl
+and-false false = refl
+
+-- how a program tells a slot count
+pub count-test : (S : ℕ) → 16 ≤ S → S < 2 ^ 64 → eqb (bitAnd S (S - 1)) 0 && leb S slotLimit ≡ isSlotCount S
+unfolding isSlotCount
+count-test S l h =
+    let p : eqb (bitAnd S (S - 1)) 0 ≡ isPower 64 S && leb 16 S =
+    power-test 64 S (omega arith) h ∙ and-true (isPower 64 S) ∙ ap (λ (t : Bool). isPower 64 S && t) (sym (le-leb 16 S l)) in
+    ap (λ (t : Bool). t && leb S slotLimit) p
+
+pub count-least : (S : ℕ) → S < 16 → isSlotCount S ≡ false
+unfolding isSlotCount
+count-least S h = rw (lt-leb 16 S h, and-false (isPower 64 S))
 
 -- ---- sums
 
