@@ -8,13 +8,16 @@ use Rattle.memory_layout.specs.declared.init.Made.{Made}
 use Rattle.memory_layout.specs.declared.init.Made.the-variants as made
 use Rattle.memory_layout.specs.Checked.{Checked, passed, failed}
 
+-- the numbers of a refusal
 unfoldable pub saidRefusal : Refusal → rows.Refusal
 saidRefusal r = record { row = r .row; slot = r .slot; expected = r .expected; found = r .found; count = r .count }
 
+-- a header's slot count, or the refusal
 unfoldable pub saidHeader : Header → Checked
 saidHeader (Slots n) = passed n
 saidHeader (Refused r) = failed (saidRefusal r)
 
+-- what initialising answers
 unfoldable pub saidMade : Made → Answer
 saidMade made.Fine = fine
 saidMade (made.Refused r) = refused (saidRefusal r)

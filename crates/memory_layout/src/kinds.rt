@@ -1,14 +1,17 @@
-// The three kinds of number that count in a book, and the only ways from one to another.
+// The three kinds of number that count in a book, with the only ways from one to another.
 ghost use mathlib.Core.Path.{_≡_};
 ghost use Prim.Native.Nat.{_+_, _*_, _%_, _^_, _≤_, _<_};
 ghost use Rattle.rules.specs.Bounds.{Sizes, Slots};
 ghost use Rattle.rules.specs.Layout.{entryAt, valueAt, controlAt, total};
 ghost use Rattle.rules.specs.Probe.{slotOf};
 
+// A slot number.
 pub struct Slot(pub usize);
 
+// A control position: one for each slot, then sixteen mirrors.
 pub struct Position(pub usize);
 
+// A byte offset into the book.
 pub struct Offset(pub usize);
 
 // The remainder by a slot count, without dividing.
@@ -50,6 +53,7 @@ pub fn span(n: usize, k: usize, v: usize) -> usize
     n * (k + v)
 }
 
+// Where a slot's entry stands: its key, and after that its value.
 pub fn entry_offset(s: Slot, k: usize, v: usize) -> Offset
     requires { ⌜ Sizes k v × (s .0 < 2 ^ 20) ⌝ }
     ensures { λ r. ⌜ r .0 ≡ entryAt k v (s .0) ⌝ }
@@ -57,6 +61,7 @@ pub fn entry_offset(s: Slot, k: usize, v: usize) -> Offset
     Offset(32 + span(s.0, k, v))
 }
 
+// Where a slot's value stands.
 pub fn value_offset(s: Slot, k: usize, v: usize) -> Offset
     requires { ⌜ Sizes k v × (s .0 < 2 ^ 20) ⌝ }
     ensures { λ r. ⌜ r .0 ≡ valueAt k v (s .0) ⌝ }
@@ -64,6 +69,7 @@ pub fn value_offset(s: Slot, k: usize, v: usize) -> Offset
     Offset(32 + span(s.0, k, v) + k)
 }
 
+// Where the byte of a control position stands.
 pub fn control_offset(p: Position, k: usize, v: usize, slots: usize) -> Offset
     requires { ⌜ Sizes k v × Slots slots × (p .0 < slots + 16) ⌝ }
     ensures { λ r. ⌜ r .0 ≡ controlAt k v slots (p .0) ⌝ }

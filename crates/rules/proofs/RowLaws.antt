@@ -1,6 +1,6 @@
--- What passing rows 1 to 10, or the rows of initialising, says of a book. Assumes nothing.
+-- The first row that applies, row by row, and what passing rows 1 to 10, or the rows of initialising, says of a book. Assumes nothing.
 use mathlib.Core.Path.{_≡_, refl}
-use mathlib.Core.Bool.{Bool, true, false, not}
+use mathlib.Core.Bool.{Bool, true, false, cond, not}
 use mathlib.Core.List.{List, [], _∷_}
 use mathlib.Core.Option.{Option, none, some}
 use Prim.Native.Nat.{ℕ, zero, suc, _+_, _^_, _≤_, _<_}
@@ -14,6 +14,12 @@ use Rattle.rules.specs.Rows.{Refusal, refusal, rowIf, headerRows, initRo
 use Rattle.rules.specs.Bounds.{Passed}
 use Rattle.rules.proofs.TestLaws.{impossible}
 use Rattle.rules.proofs.LayoutLaws.{sizes, slots, entry-fits, total-fits}
+
+pub first-if : (n : ℕ) (applies : Bool) (rest : List (Option Refusal))
+    → firstSome (rowIf n applies ∷ rest) ≡ cond applies (some (refusal n)) (firstSome rest)
+unfolding firstSome
+first-if n true rest = refl
+first-if n false rest = refl
 
 -- where the first that applies is none, no row applies
 pub none-at : (rows : List (Option Refusal)) → firstSome rows ≡ none → (i : ℕ) → getD rows i none ≡ none

@@ -9,9 +9,10 @@ use Rattle.rules.specs.Layout.{areSizes}
 use Rattle.rules.specs.Rows.{headerRows}
 use Rattle.rules.specs.Calls.{byRows}
 use Rattle.rules.proofs.LayoutLaws.{sizes}
+use Rattle.rules.proofs.RowLaws.{first-if}
 use Rattle.memory_layout.specs.Checked.{checked}
 use Rattle.memory_layout.specs.Said.{saidHeader}
-use Rattle.memory_layout.proofs.RowNumbers.{first-if, a-row, no-row}
+use Rattle.memory_layout.proofs.RowNumbers.{a-row, no-row}
 use borrow.Author.Needs.{needs}
 use Rattle.memory_layout.proofs.header.check_header.Statement.{statement}
 use Rattle.memory_layout.proofs.header.check_header.Tie as tie

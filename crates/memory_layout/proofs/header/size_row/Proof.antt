@@ -6,8 +6,8 @@ use borrow.Author.Tests.{not-true, not-false, eq-eqb, ne-eqb}
 use Rattle.rules.specs.First.{firstSome}
 use Rattle.rules.specs.Layout.{isSlotCount, total}
 use Rattle.rules.proofs.LayoutLaws.{slots}
+use Rattle.rules.proofs.RowLaws.{first-if}
 use Rattle.memory_layout.specs.Checked.{numbered, sizeRows}
-use Rattle.memory_layout.proofs.RowNumbers.{first-if}
 use borrow.Author.Needs.{needs}
 use Rattle.memory_layout.proofs.header.size_row.Statement.{statement}
 use Rattle.memory_layout.proofs.header.size_row.Tie as tie

@@ -3,8 +3,8 @@ use mathlib.Core.Path.{sym, _∙_}
 use borrow.Author.Needs.{needs}
 use Rattle.rules.specs.Bytes.{leBytes}
 use Rattle.rules.specs.Rows.{headerRows}
+use Rattle.rules.proofs.RowLaws.{first-if}
 use Rattle.memory_layout.specs.Checked.{sizeRows}
-use Rattle.memory_layout.proofs.RowNumbers.{first-if}
 use Rattle.memory_layout.proofs.header.stated_row.Statement.{statement}
 use Rattle.memory_layout.proofs.header.stated_row.Tie as tie
 
@@ -52,7 +52,16 @@ row-if-requires-6 c κs = search needs
 
 returns : tie.Need-returns
 unfolding headerRows leBytes sizeRows
-returns c = c .row-if6 .ensures ∙ rw (c .before .word-not2 .ensures, c .before .before .row-if5 .ensures, c .before .before .before .word-not .ensures, c .before .before .before .before .row-if4 .ensures, c .before .before .before .before .before .byte-not4 .ensures, c .before .before .before .before .before .before .row-if3 .ensures, c .before .before .before .before .before .before .before .byte-not3 .ensures, c .before .before .before .before .before .before .before .before .row-if2 .ensures, c .before .before .before .before .before .before .before .before .before .byte-not2 .ensures, c .before .before .before .before .before .before .before .before .before .before .row-if .ensures, c .before .before .before .before .before .before .before .before .before .before .before .byte-not .ensures, c .before .before .before .before .before .before .before .before .before .before .before .before .size-row .ensures, c .before .before .before .before .before .before .before .before .before .before .before .before .before .read-u64 .ensures) (sym (simp first-if))
+returns c =
+    let r4 = c .before .before in
+    let r5 = r4 .before .before in
+    let r6 = r5 .before .before in
+    let r7 = r6 .before .before in
+    let r8 = r7 .before .before in
+    let r9 = r8 .before .before in
+    c .row-if6 .ensures
+    ∙ rw (c .before .word-not2 .ensures, r4 .row-if5 .ensures, r4 .before .word-not .ensures, r5 .row-if4 .ensures, r5 .before .byte-not4 .ensures, r6 .row-if3 .ensures, r6 .before .byte-not3 .ensures, r7 .row-if2 .ensures, r7 .before .byte-not2 .ensures, r8 .row-if .ensures, r8 .before .byte-not .ensures, r9 .size-row .ensures, r9 .before .read-u64 .ensures)
+    (sym (simp first-if))
 
 pub stated-row-spec : {M : Type 1} → statement M
 stated-row-spec =

@@ -8,10 +8,10 @@ use Rattle.rules.specs.Layout.{areSizes}
 use Rattle.rules.specs.Rows.{initRows}
 use Rattle.rules.specs.Calls.{byRows, initAnswer, initBook}
 use Rattle.rules.proofs.LayoutLaws.{sizes}
-use Rattle.rules.proofs.RowLaws.{init-passed}
+use Rattle.rules.proofs.RowLaws.{first-if, init-passed}
 use Rattle.memory_layout.specs.Checked.{numbered, sizeRows}
 use Rattle.memory_layout.specs.Said.{saidMade}
-use Rattle.memory_layout.proofs.RowNumbers.{first-if, a-row, no-row}
+use Rattle.memory_layout.proofs.RowNumbers.{a-row, no-row}
 use borrow.Author.Needs.{needs}
 use Rattle.memory_layout.proofs.init.init_in_place.Statement.{statement}
 use Rattle.memory_layout.proofs.init.init_in_place.Tie as tie
