@@ -28,7 +28,7 @@ unfolding saidHeader checked byRows headerRows
 returns c =
     let a = c .before .before .before .before .args in
     let no : areSizes (a .k) (a .v) ≡ false = sym (c .before .before .are-sizes .ensures) ∙ not-true _ (c .before .if1 .taken) in
-    rw (c .of-row .ensures) (sym (simp (first-if, no)))
+    rw (c .of-row .ensures) (simp (first-if, no))
 
 sized : (c : tie.Else1) → areSizes (c .before .before .before .args .k) (c .before .before .before .args .v) ≡ true
 sized c = sym (c .before .are-sizes .ensures) ∙ not-false _ (c .if1 .left)
@@ -40,7 +40,7 @@ returns-2 : tie.Need-returns-2
 unfolding saidHeader checked byRows headerRows
 returns-2 c =
     let s = now (c .before .before .before .before .before .args .book) in
-    rw (c .of-row2 .ensures) (sym (simp (first-if, sized (c .before .before), lt-ltb (length s) 32 (c .before .if2 .taken))))
+    rw (c .of-row2 .ensures) (simp (first-if, sized (c .before .before), lt-ltb (length s) 32 (c .before .if2 .taken)))
 
 later : (c : tie.Else2) → firstSome (headerRows (now (c .before .before .before .before .args .book)) (c .before .before .before .before .args .k) (c .before .before .before .before .args .v))
     ≡ firstSome (drop 2 (headerRows (now (c .before .before .before .before .args .book)) (c .before .before .before .before .args .k) (c .before .before .before .before .args .v)))

@@ -1,5 +1,5 @@
 -- Each row put before the later ones, by the law `first-if`. Assumes nothing.
-use mathlib.Core.Path.{sym, _∙_}
+use mathlib.Core.Path.{_∙_}
 use borrow.Author.Needs.{needs}
 use Rattle.rules.specs.Bytes.{leBytes}
 use Rattle.rules.specs.Rows.{headerRows}
@@ -61,7 +61,7 @@ returns c =
     let r9 = r8 .before .before in
     c .row-if6 .ensures
     ∙ rw (c .before .word-not2 .ensures, r4 .row-if5 .ensures, r4 .before .word-not .ensures, r5 .row-if4 .ensures, r5 .before .byte-not4 .ensures, r6 .row-if3 .ensures, r6 .before .byte-not3 .ensures, r7 .row-if2 .ensures, r7 .before .byte-not2 .ensures, r8 .row-if .ensures, r8 .before .byte-not .ensures, r9 .size-row .ensures, r9 .before .read-u64 .ensures)
-    (sym (simp first-if))
+    (simp first-if)
 
 pub stated-row-spec : {M : Type 1} → statement M
 stated-row-spec =

@@ -27,7 +27,7 @@ unfolding saidMade initAnswer initBook byRows initRows
 returns c =
     let a = c .before .before .before .before .args in
     let no : areSizes (a .k) (a .v) ≡ false = sym (c .before .before .are-sizes .ensures) ∙ not-true _ (c .before .if1 .taken) in
-    (rw (c .of-row .ensures) (sym (simp (first-if, no))), simp (first-if, no))
+    (rw (c .of-row .ensures) (simp (first-if, no)), simp (first-if, no))
 
 sized : (c : tie.Else1) → areSizes (c .before .before .before .args .k) (c .before .before .before .args .v) ≡ true
 sized c = sym (c .before .are-sizes .ensures) ∙ not-false _ (c .if1 .left)

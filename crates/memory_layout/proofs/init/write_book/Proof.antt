@@ -1,9 +1,9 @@
 -- The header and then the two filled parts are a fresh book, by the law `two-parts`. Assumes nothing.
 use mathlib.Core.Path.{_≡_, refl, sym, ap, _∙_}
-use mathlib.Core.List.{List}
+use mathlib.Core.List.{List, _++_}
 use Prim.Native.Nat.{ℕ, _+_, _*_, _-_}
 use native.Mathlib.Omega.{arith}
-use lib.ListN.{length, replicate, length-replicate}
+use lib.ListN.{length, replicate, drop, length-replicate}
 use denote.Ref.{now}
 use Rattle.rules.specs.Bytes.{leBytes}
 use Rattle.rules.specs.Layout.{header, freshBook}
@@ -70,7 +70,8 @@ returns c =
     let e₁ : f ≡ replicate (a .slots * (a .k + a .v)) 0 = f₁ .fill .ensures ∙ ap (λ (n : ℕ). replicate n 0) (sym (f₁ .before .fill-arg .given .1) ∙ n₁) in
     let e₂ : g ≡ replicate (a .slots + 16) 255 = f₂ .fill2 .ensures ∙ ap (λ (n : ℕ). replicate n 255) (sym (f₂ .before .fill-arg2 .given .1) ∙ n₂) in
     let l : length f ≡ m - 32 = ap length e₁ ∙ length-replicate (a .slots * (a .k + a .v)) 0 ∙ sym n₁ in
-    ap (λ (b : List ℕ). over (over b 32 m f) m (m + a .slots + 16) g) (h .put-header .ensures)
+    let e₀ : h .put-header .last .0 ≡ header (a .k) (a .v) (a .slots) (a .items) (a .load) ++ drop 32 (now (a .book)) = h .put-header .ensures in
+    ap (λ (b : List ℕ). over (over b 32 m f) m (m + a .slots + 16) g) e₀
     ∙ two-parts (now (a .book)) (header (a .k) (a .v) (a .slots) (a .items) (a .load)) f g 32 m (m + a .slots + 16)
     (header-long (a .k) (a .v) (a .slots) (a .items) (a .load)) l (omega arith) (omega arith) (omega arith)
     ∙ rw (e₁, e₂)
