@@ -34,7 +34,9 @@ pub fn equals(a: &[u8], b: &[u8]) -> bool
     }
     let mut i = 0;
     while i < a.len() {
-        if a[i] != b[i] {
+        let ours = a[i];
+        let theirs = b[i];
+        if ours != theirs {
             return false;
         }
         i += 1;

@@ -34,11 +34,11 @@ returns c = let a = c .before .args in sym (same-lengths (a .a .now) (a .b .now)
 loop-holds : tie.Need-loop-holds Inv-loop μ-loop
 loop-holds c = (omega arith, c .if1 .left, refl)
 
-shared-slice-read-if2 : tie.Need-shared-slice-read-if2 Inv-loop μ-loop
-shared-slice-read-if2 c = search needs
+shared-slice-read-ours : tie.Need-shared-slice-read-ours Inv-loop μ-loop
+shared-slice-read-ours c = search needs
 
-shared-slice-read-if2-2 : tie.Need-shared-slice-read-if2-2 Inv-loop μ-loop
-shared-slice-read-if2-2 c = search needs
+shared-slice-read-theirs : tie.Need-shared-slice-read-theirs Inv-loop μ-loop
+shared-slice-read-theirs c = search needs
 
 returns-2 : tie.Need-returns-2 Inv-loop μ-loop
 returns-2 c = sym (c .before .before .before .before .loop .inv .2 ∙ stepped (c .before .before .before) ∙ ap (λ (q : Bool). q && after (c .before .before .before)) (ne-eqb _ _ (c .if2 .taken)))
@@ -70,8 +70,8 @@ equals-spec =
     μ-loop
     returns
     loop-holds
-    shared-slice-read-if2
-    shared-slice-read-if2-2
+    shared-slice-read-ours
+    shared-slice-read-theirs
     returns-2
     add-i
     loop-less
