@@ -11,8 +11,8 @@ use native.Mathlib.Omega.{arith}
 use native.Mathlib.Decide.{ℕ-discrete}
 use borrow.Author.Tests.{eqb-true, eq-eqb, ne-eqb}
 use lib.Dec.{lit<, eqb}
-use lib.ListN.{length, getD, take, drop, length-drop}
-use lib.Seq.{getD-drop, take-add, drop-drop, drop-cons, length-take-le}
+use lib.ListN.{length, getD, take, drop, length-take, length-drop}
+use lib.Seq.{getD-take, getD-drop, take-add, drop-drop, drop-cons, length-take-le, ext-getD}
 use Rattle.rules.specs.Bytes.{byteAt, part, le, leBytes, sameBytes}
 use Rattle.rules.proofs.TestLaws.{both, and-false}
 
@@ -37,6 +37,23 @@ pub length-part : (n at : ℕ) (s : List ℕ) → at + n ≤ length s → length
 length-part n at s h =
     let fits : n ≤ length (drop at s) = simp length-drop (omega arith) in
     length-take-le n (drop at s) fits
+
+-- a part's bytes are the list's, from its place on
+pub part-at : (n at i : ℕ) (s : List ℕ) → i < n → byteAt (part n at s) i ≡ byteAt s (at + i)
+part-at n at i s h = getD-take n (drop at s) i 0 h ∙ getD-drop at s i 0
+
+-- lists of one length have the same part where they have the same bytes
+pub same-part : (n at : ℕ) (s t : List ℕ) → length s ≡ length t → ((i : ℕ) → i < n → byteAt s (at + i) ≡ byteAt t (at + i)) → part n at s ≡ part n at t
+same-part n at s t l e =
+    ext-getD 0 (part n at s) (part n at t) (simp (length-take, length-drop, l))
+    (λ i h. let u : i < n = omega (arith, length-take n (drop at s)) in
+    part-at n at i s u ∙ e i u ∙ sym (part-at n at i t u))
+
+-- a part is a list whose bytes stand there
+pub part-is : (at : ℕ) (s xs : List ℕ) → at + length xs ≤ length s → ((i : ℕ) → i < length xs → byteAt s (at + i) ≡ byteAt xs i) → part (length xs) at s ≡ xs
+part-is at s xs h e =
+    let l : length (part (length xs) at s) ≡ length xs = length-part (length xs) at s h in
+    ext-getD 0 (part (length xs) at s) xs l (λ i u. part-at (length xs) at i s (omega arith) ∙ e i (omega arith))
 
 -- each element is a byte
 abbrev pub Bytes : List ℕ → Type 0

@@ -17,7 +17,7 @@ use Rattle.rules.specs.Calls.{Answer, refused, atSlot, byRows, findRows,
 use Rattle.rules.specs.Bounds.{Passed}
 use Rattle.rules.proofs.FirstLaws.{first-earlier, last-row, none-before}
 use Rattle.rules.proofs.TestLaws.{impossible, both}
-use Rattle.rules.proofs.RowLaws.{passed}
+use Rattle.rules.proofs.RowLaws.{passed, passes}
 use Rattle.rules.proofs.SearchLaws.{spot-below}
 
 module _ {A : Type 0} (refusing : Refusal → A) (accepting : A) where
@@ -119,6 +119,13 @@ module _ (s : List ℕ) (k v : ℕ) (key : List ℕ) where
       let h : 0 < slotCount s = omega (arith, p .slots .least) in
       (p, rw (f .1) at (spot-below 8 reports s k v (slotCount s) key h))
 
+-- the header is right for insert, and so is each lent length
+pub record Fitting (s : List ℕ) (k v : ℕ) (key value old : List ℕ) : Type 0 where
+  pub header : firstSome (headerRows s k v) ≡ none
+  pub key-fits : length key ≡ k
+  pub value-fits : length value ≡ v
+  pub old-fits : length old ≡ v
+
 module _ (s : List ℕ) (k v : ℕ) (key value old : List ℕ) where
   -- whether the three lent lengths are right
   abbrev pub Fits : Bool
@@ -142,6 +149,19 @@ module _ (s : List ℕ) (k v : ℕ) (key value old : List ℕ) where
       let a = both (fits key k && fits value v) (fits old v) e in
       let b = both (fits key k) (fits value v) (a .0) in
       (eqb-true (length key) k (b .0), eqb-true (length value) v (b .1), eqb-true (length old) v (a .1))
+
+  -- no row of insert applies exactly where the header and the lengths are right
+  pub fitting : firstSome (insertRows s k v key value old) ≡ none → Fitting s k v key value old
+  unfolding insertRows
+  fitting e =
+      let h = none-before (headerRows s k v) (rowIf 13 (not Fits) ∷ []) e in
+      let l = lengths (passes 13 Fits (sym (last-row (headerRows s k v) (rowIf 13 (not Fits)) h) ∙ e)) in
+      record { header = h; key-fits = l .0; value-fits = l .1; old-fits = l .2 }
+
+  pub fitting-passes : Fitting s k v key value old → firstSome (insertRows s k v key value old) ≡ none
+  fitting-passes f =
+      insert-passes (f .header)
+      (rw (eq-eqb (length key) k (f .key-fits), eq-eqb (length value) v (f .value-fits), eq-eqb (length old) v (f .old-fits)))
 
   -- a refused insert, and one that the search decides: the answer, the book, the third buffer
   abbrev pub Inserts : Answer → List ℕ → List ℕ → Type 0

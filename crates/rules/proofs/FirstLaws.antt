@@ -8,8 +8,8 @@ use Prim.Native.Nat.{ℕ, zero, suc, _+_, _≤_, _<_}
 use native.Mathlib.Omega.{arith}
 use native.Mathlib.Decide.{ℕ-discrete}
 use mathlib.Core.Logic.{dite}
-use lib.ListN.{length, replicate}
-use Rattle.rules.specs.First.{numbers, firstOf, firstSome}
+use lib.ListN.{length, getD, replicate}
+use Rattle.rules.specs.First.{numbers, firstOf, eachOf, firstSome}
 use Rattle.rules.proofs.TestLaws.{impossible}
 
 -- the n numbers from i upward all fail
@@ -74,6 +74,17 @@ module _ (test : ℕ → Bool) where
         passes = h .passes;
         least = λ m l u. h .least m (omega arith) u;
       })))
+
+  -- each passes, of a run of numbers and of any list
+  pub each-number : (i n : ℕ) → ((m : ℕ) → i ≤ m → m < i + n → test m ≡ true) → eachOf test (numbers i n) ≡ true
+  unfolding eachOf numbers
+  each-number i zero h = refl
+  each-number i (suc n) h = rw (h i (omega arith) (omega arith)) (each-number (suc i) n (λ m l u. h m (omega arith) (omega arith)))
+
+  pub each-at : (xs : List ℕ) → ((i : ℕ) → i < length xs → test (getD xs i 0) ≡ true) → eachOf test xs ≡ true
+  unfolding eachOf
+  each-at [] h = refl
+  each-at (x ∷ xs) h = rw (h 0 (omega arith)) (each-at xs (λ i u. h (suc i) (omega arith)))
 
 -- ---- the first row that applies
 

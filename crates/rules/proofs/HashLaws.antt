@@ -1,4 +1,4 @@
--- The hash taken chunk by chunk from a place on, once over the width of a chunk. Assumes nothing.
+-- The hash taken chunk by chunk from a place on, once over the width of a chunk; a tag never means empty. Assumes nothing.
 use mathlib.Core.Path.{_≡_, refl, sym, ap, _∙_}
 use mathlib.Core.List.{List, [], _∷_}
 use Prim.Native.Nat.{ℕ, zero, suc, _+_, _-_, _*_, _/_, _≤_, _<_}
@@ -7,7 +7,7 @@ use borrow.Author.Tests.{le-leb, lt-leb}
 use lib.ListN.{length, take, drop, length-drop}
 use lib.Seq.{drop-drop}
 use Rattle.rules.specs.Bytes.{le, part}
-use Rattle.rules.specs.Hash.{mixed, chunks, eights}
+use Rattle.rules.specs.Hash.{mixed, chunks, eights, hashOf, tagOf}
 
 module _ (w : ℕ) (ws : List ℕ) (h i : ℕ) (s : List ℕ) where
   -- w bytes remain from i on: the chunk goes in
@@ -38,3 +38,8 @@ module _ (h i : ℕ) (s : List ℕ) where
   eight-left f =
       let e : (length s - i) / 8 ≡ 0 = omega arith in
       ap (λ (n : ℕ). eights n h (drop i s)) e
+
+-- a tag has seven bits
+pub tag-lt : (key : List ℕ) → tagOf key < 128
+unfolding hashOf
+tag-lt key = omega arith

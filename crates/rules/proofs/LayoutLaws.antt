@@ -2,16 +2,16 @@
 -- Assumes nothing.
 use mathlib.Core.Path.{_≡_, refl, sym, ap, _∙_}
 use mathlib.Core.Logic.{dite}
-use mathlib.Core.Bool.{Bool, true, false, _&&_, _||_}
+use mathlib.Core.Bool.{Bool, true, false, not, _&&_, _||_}
 use Prim.Native.Nat.{ℕ, zero, suc, _+_, _-_, _*_, _/_, _%_, _^_, _≤_, _<_}
 use native.Mathlib.Nat.{add-zero, mod-self, mul-le-mul, mul-le-mul-right}
 use native.Mathlib.Decide.{ℕ-discrete, decLt}
 use native.Mathlib.Omega.{arith}
-use borrow.Author.Tests.{leb-true, le-leb, lt-leb, eqb-true, eq-eqb, ne-eqb}
+use borrow.Author.Tests.{leb-true, leb-false, le-leb, lt-leb, eqb-true, eq-eqb, ne-eqb, not-true}
 use lib.Bits.{bitAnd, and-step, and-self, and-mask}
 use lib.Dec.{eqb, leb}
 use lib.Pow.{pow-add, pow-mono, pow-pos}
-use Rattle.rules.specs.Layout.{slotLimit, areSizes, isPower, isSlotCount, entryAt, controlAt, total}
+use Rattle.rules.specs.Layout.{slotLimit, areSizes, isPower, isSlotCount, entryAt, controlAt, total, isEmpty}
 use Rattle.rules.specs.Bounds.{Sizes, Slots}
 use Rattle.rules.proofs.TestLaws.{impossible, both}
 
@@ -148,3 +148,11 @@ module _ (k v S : ℕ) (size : Sizes k v) (count : Slots S) where
   -- n control positions from a slot on end with the book, up to 16 of them
   pub group-fits : (p n : ℕ) → p < S → n ≤ 16 → controlAt k v S p + n < total k v S
   group-fits p n h l = omega arith
+
+-- ---- a control byte is a tag exactly below 128
+
+pub tag-low : (c : ℕ) → not (isEmpty c) ≡ true → c < 128
+tag-low c e = leb-false 128 c (not-true (isEmpty c) e)
+
+pub low-tag : (c : ℕ) → c < 128 → not (isEmpty c) ≡ true
+low-tag c h = rw (lt-leb 128 c h)

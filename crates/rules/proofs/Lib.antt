@@ -8,4 +8,6 @@ pub mod ProbeLaws
 pub mod RowLaws
 pub mod SearchLaws
 pub mod CallLaws
+pub mod StoreLaws
+pub mod FreshLaws
 pub mod ExamplesHold

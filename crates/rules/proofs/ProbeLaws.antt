@@ -4,7 +4,7 @@
 use mathlib.Core.Path.{_≡_, refl, sym, ap, ap₂, _∙_}
 use mathlib.Core.Logic.{_⊎_, inl, inr, ⊎-elim, dite}
 use Prim.Native.Nat.{ℕ, zero, suc, _+_, _-_, _*_, _/_, _%_, _^_, _≤_, _<_}
-use native.Mathlib.Nat.{mod-one, mod-lt, pow-suc, mul-comm, one-mul, add-mul-div-right, add-mul-mod-self-right, div-add-mod', zero-lt-suc, add-mod-mod, mod-add-mod, add-left-comm, mod-eq-of-lt, mul-le-mul-left, mul-div-cancel, div-lt-iff-lt-mul}
+use native.Mathlib.Nat.{mod-one, mod-lt, pow-suc, mul-comm, one-mul, add-mul-div-right, add-mul-mod-self-right, div-add-mod', zero-lt-suc, add-mod-mod, mod-add-mod, add-left-comm, mod-eq-of-lt, mul-le-mul-left, le-mul-of-pos-right, mul-div-cancel, div-lt-iff-lt-mul}
 use native.Mathlib.Omega.{arith}
 use native.Mathlib.Decide.{ℕ-discrete, decLt}
 use lib.Arith.{mod-mul, digits-mod, digits-div, digits-lt}
@@ -157,11 +157,14 @@ left-pos zero y e = absurd (omega arith)
 left-pos (suc x) y e = omega arith
 
 module _ (w c : ℕ) (whole : w * c ≡ 16) where
-  w-pos : 0 < w
+  pub w-pos : 0 < w
   w-pos = left-pos w c whole
 
   c-pos : 0 < c
   c-pos = left-pos c w (mul-comm c w ∙ whole)
+
+  pub w-most : w ≤ 16
+  w-most = omega (arith, le-mul-of-pos-right w c-pos)
 
   -- position i of group j is the slot number w * j + i of the order
   pub slot-group : (b S j i : ℕ) → i < w → slotAt b S (w * j + i) ≡ slotOf S (groupStart w b S j) i
@@ -179,12 +182,13 @@ module _ (w c : ℕ) (whole : w * c ≡ 16) where
 
   module _ (m b : ℕ) where
     -- the groups hold as many positions as there are slots
-    groups : 2 ^ m * 16 / w * w ≡ 2 ^ m * 16
+    pub groups : 2 ^ m * 16 / w * w ≡ 2 ^ m * 16
     groups =
         let e : 2 ^ m * 16 ≡ (2 ^ m * c) * w = omega (arith, ap (λ (x : ℕ). 2 ^ m * x) whole) in
         ap (λ (x : ℕ). x / w * w) e ∙ ap (λ (x : ℕ). x * w) (mul-div-cancel (2 ^ m * c) w-pos) ∙ sym e
 
-    position-lt : (j i : ℕ) → j < 2 ^ m * 16 / w → i < w → w * j + i < 2 ^ m * 16
+    -- the positions of the first S / w groups are the first S of the order
+    pub position-lt : (j i : ℕ) → j < 2 ^ m * 16 / w → i < w → w * j + i < 2 ^ m * 16
     position-lt j i hj hi = let l : w * suc j ≤ w * (2 ^ m * 16 / w) = mul-le-mul-left w hj in omega (arith, groups)
 
     -- of the first S / w groups no two positions stand for one slot

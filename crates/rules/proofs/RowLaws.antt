@@ -1,5 +1,6 @@
--- The first row that applies, row by row, and what passing rows 1 to 10, or the rows of initialising, says of a book. Assumes nothing.
-use mathlib.Core.Path.{_≡_, refl}
+-- The first row that applies, row by row, what passing rows 1 to 10, or the rows of initialising, says of a book, and that rows 1 to 10 read
+-- its header and its length alone. Assumes nothing.
+use mathlib.Core.Path.{_≡_, refl, ap}
 use mathlib.Core.Bool.{Bool, true, false, cond, not}
 use mathlib.Core.List.{List, [], _∷_}
 use mathlib.Core.Option.{Option, none, some}
@@ -8,11 +9,13 @@ use native.Mathlib.Omega.{arith}
 use borrow.Author.Tests.{eqb-true}
 use lib.Dec.{eqb}
 use lib.ListN.{length, getD}
+use Rattle.rules.specs.Bytes.{byteAt, part, le}
 use Rattle.rules.specs.First.{firstSome}
 use Rattle.rules.specs.Layout.{areSizes, isSlotCount, entryAt, total, slotCount}
 use Rattle.rules.specs.Rows.{Refusal, refusal, rowIf, headerRows, initRows}
 use Rattle.rules.specs.Bounds.{Passed}
 use Rattle.rules.proofs.TestLaws.{impossible}
+use Rattle.rules.proofs.BytesLaws.{same-part}
 use Rattle.rules.proofs.LayoutLaws.{sizes, slots, entry-fits, total-fits}
 
 pub first-if : (n : ℕ) (applies : Bool) (rest : List (Option Refusal))
@@ -42,6 +45,26 @@ module _ (s : List ℕ) (k v : ℕ) (e : firstSome (headerRows s k v) ≡ none) 
     slots = slots (slotCount s) (passes 9 (isSlotCount (slotCount s)) (none-at (headerRows s k v) e 8));
     long = eqb-true (length s) (total k v (slotCount s)) (passes 10 (eqb (length s) (total k v (slotCount s))) (none-at (headerRows s k v) e 9));
   }
+
+  -- the sizes are those that the header states
+  pub key-stated : byteAt s 5 ≡ k
+  unfolding headerRows
+  key-stated = eqb-true (byteAt s 5) k (passes 6 (eqb (byteAt s 5) k) (none-at (headerRows s k v) e 5))
+
+  pub value-stated : byteAt s 6 ≡ v
+  unfolding headerRows
+  value-stated = eqb-true (byteAt s 6) v (passes 7 (eqb (byteAt s 6) v) (none-at (headerRows s k v) e 6))
+
+module _ (s t : List ℕ) (long : length s ≡ length t) (same : (x : ℕ) → x < 32 → byteAt s x ≡ byteAt t x) where
+  pub same-count : slotCount s ≡ slotCount t
+  same-count = ap le (same-part 8 16 s t long (λ i h. same (16 + i) (omega arith)))
+
+  pub same-rows : (k v : ℕ) → headerRows s k v ≡ headerRows t k v
+  unfolding headerRows
+  same-rows k v =
+      let tag : part 4 0 s ≡ part 4 0 t = same-part 4 0 s t long (λ i h. same (0 + i) (omega arith)) in
+      let version : part 4 24 s ≡ part 4 24 t = same-part 4 24 s t long (λ i h. same (24 + i) (omega arith)) in
+      rw (tag, version, same-count, long, same 4 (omega arith), same 5 (omega arith), same 6 (omega arith), same 7 (omega arith))
 
 module _ (s : List ℕ) (k v S : ℕ) (e : firstSome (initRows s k v S) ≡ none) where
   pub init-passed : Passed s k v S
