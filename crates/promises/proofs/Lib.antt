@@ -4,4 +4,8 @@ pub mod Found
 pub mod Wrote
 pub mod Step
 pub mod Fresh
+pub mod Lookup
+pub mod Passes
 pub mod Changes
+pub mod Promises
+pub mod Day
