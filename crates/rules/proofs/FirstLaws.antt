@@ -1,14 +1,18 @@
 -- What the first of a list is, exactly: of a run of numbers the lowest that passes, of rows the first that applies.
 -- Assumes nothing.
 use mathlib.Core.Path.{_≡_, refl, sym, ap, _∙_}
-use mathlib.Core.Bool.{Bool, true, false}
+use mathlib.Core.Bool.{Bool, true, false, _&&_}
 use mathlib.Core.List.{List, [], _∷_, _++_}
 use mathlib.Core.Option.{Option, none, some}
-use Prim.Native.Nat.{ℕ, zero, suc, _+_, _≤_, _<_}
+use Prim.Native.Nat.{ℕ, zero, suc, _+_, _-_, _≤_, _<_}
+use native.Mathlib.Nat.{sub-zero}
+use native.Mathlib.Numerals.{add-one}
 use native.Mathlib.Omega.{arith}
 use native.Mathlib.Decide.{ℕ-discrete}
 use mathlib.Core.Logic.{dite}
-use lib.ListN.{length, getD, replicate}
+use lib.ListN.{length, getD, drop, replicate, drop-of-length-le}
+use lib.Seq.{drop-cons}
+use Rattle.rules.specs.Bytes.{byteAt}
 use Rattle.rules.specs.First.{numbers, firstOf, eachOf, firstSome}
 use Rattle.rules.proofs.TestLaws.{impossible}
 
@@ -139,3 +143,34 @@ module _ {A : Type 0} where
   none-before [] ys e = refl
   none-before (none ∷ xs) ys e = none-before xs ys e
   none-before (some x ∷ xs) ys e = e
+
+-- ---- taken one at a time
+
+module _ (test : ℕ → Bool) where
+  -- the first from i on, below n
+  abbrev pub Onward : ℕ → ℕ → Option ℕ
+  Onward n i = firstOf test (numbers i (n - i))
+
+  pub onward-start : (n : ℕ) → firstOf test (numbers 0 n) ≡ Onward n 0
+  onward-start n = rw sub-zero
+
+  pub onward-yes : (n i : ℕ) → i < n → test i ≡ true → Onward n i ≡ some i
+  unfolding firstOf numbers
+  onward-yes n i h e = let g : n - i ≡ suc (n - (i + 1)) = omega arith in rw (g, e)
+
+  pub onward-no : (n i : ℕ) → i < n → test i ≡ false → Onward n i ≡ Onward n (i + 1)
+  unfolding firstOf numbers
+  onward-no n i h e = let g : n - i ≡ suc (n - (i + 1)) = omega arith in rw (g, e, add-one)
+
+  pub onward-end : (n i : ℕ) → n ≤ i → Onward n i ≡ none
+  unfolding firstOf numbers
+  onward-end n i h = let z : n - i ≡ 0 = omega arith in rw z
+
+  -- whether each passes, from a place of a list on
+  pub each-step : (xs : List ℕ) (i : ℕ) → i < length xs → eachOf test (drop i xs) ≡ test (byteAt xs i) && eachOf test (drop (i + 1) xs)
+  unfolding eachOf
+  each-step xs i h = rw (drop-cons xs i 0 h, add-one)
+
+  pub each-end : (xs : List ℕ) (i : ℕ) → length xs ≤ i → eachOf test (drop i xs) ≡ true
+  unfolding eachOf
+  each-end xs i h = rw (drop-of-length-le xs h)

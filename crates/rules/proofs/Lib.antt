@@ -11,3 +11,4 @@ pub mod CallLaws
 pub mod StoreLaws
 pub mod FreshLaws
 pub mod ExamplesHold
+pub mod AnswerLaws
