@@ -1,2 +1,3 @@
 pub mod Seq
 pub mod Said
+pub mod SaidOpen

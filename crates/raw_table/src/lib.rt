@@ -1,5 +1,7 @@
 // The table itself: the one search, and the calls that read it.
-pub mod find;
-pub mod insert;
 pub mod probe;
 pub mod search;
+pub mod slot;
+pub mod find;
+pub mod insert;
+pub mod open;
