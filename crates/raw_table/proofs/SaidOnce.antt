@@ -7,6 +7,9 @@ use Rattle.raw_table.specs.declared.open.Fault.{Fault}
 use Rattle.raw_table.specs.declared.open.Fault.the-variants.{Nothing, Found}
 use Rattle.raw_table.specs.declared.open.Opened.{Opened}
 use Rattle.raw_table.specs.declared.open.Opened.the-variants as opened
+use Rattle.raw_table.specs.declared.iter.Next.{Next}
+use Rattle.raw_table.specs.declared.iter.Next.the-variants as nexts
+use Rattle.raw_table.specs.SaidIter.{saidNext}
 use Rattle.raw_table.specs.SaidOpen.{saidFault, saidOpened}
 
 pub fault-once : (a b : Fault) → saidFault a ≡ saidFault b → a ≡ b
@@ -22,3 +25,18 @@ opened-once opened.Fine opened.Fine e = refl
 opened-once opened.Fine (opened.Refused r) e = impossible cc
 opened-once (opened.Refused q) opened.Fine e = impossible cc
 opened-once (opened.Refused q) (opened.Refused r) e = let h : saidRefusal q ≡ saidRefusal r = cc in ap opened.Refused (refusal-once q r h)
+
+pub next-once : (a b : Next) → saidNext a ≡ saidNext b → a ≡ b
+unfolding saidNext
+next-once (nexts.At s x) (nexts.At t y) e =
+    let h : s .0 ≡ t .0 = cc in
+    let g : x ≡ y = cc in
+    λ i. nexts.At (record { 0 = h i }) (g i)
+next-once (nexts.At s x) nexts.Done e = impossible cc
+next-once (nexts.At s x) (nexts.Refused r) e = impossible cc
+next-once nexts.Done (nexts.At t y) e = impossible cc
+next-once nexts.Done nexts.Done e = refl
+next-once nexts.Done (nexts.Refused r) e = impossible cc
+next-once (nexts.Refused q) (nexts.At t y) e = impossible cc
+next-once (nexts.Refused q) nexts.Done e = impossible cc
+next-once (nexts.Refused q) (nexts.Refused r) e = let h : saidRefusal q ≡ saidRefusal r = cc in ap nexts.Refused (refusal-once q r h)

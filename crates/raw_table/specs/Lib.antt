@@ -1,3 +1,4 @@
 pub mod Seq
 pub mod Said
 pub mod SaidOpen
+pub mod SaidIter

@@ -5,3 +5,4 @@ pub mod slot;
 pub mod find;
 pub mod insert;
 pub mod open;
+pub mod iter;
