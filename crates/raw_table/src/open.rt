@@ -34,7 +34,7 @@ pub enum Opened {
 // How many slots opening looks at.
 const SLOTS_TO_CHECK: usize = 10;
 
-pub fn all_zero(part: &[u8]) -> bool
+fn all_zero(part: &[u8]) -> bool
     ensures { λ r. ⌜ r ≡ eachOf (λ b. eqb b 0) (now (part .entry)) ⌝ }
 {
     let mut i = 0;
@@ -58,7 +58,7 @@ fn entry_zero(book: &[u8], slot: Slot, k: usize, v: usize, slots: usize) -> bool
 }
 
 // Whether a slot is as it should be: zero if empty, else with its key's tag.
-pub fn slot_fine(book: &[u8], slot: Slot, k: usize, v: usize, slots: usize) -> bool
+fn slot_fine(book: &[u8], slot: Slot, k: usize, v: usize, slots: usize) -> bool
     requires { ⌜ Passed (now book) k v slots × (slot .0 < slots) ⌝ }
     ensures { λ r. ⌜ r ≡ slotFine (now (book .entry)) k v slots (slot .0) ⌝ }
 {

@@ -9,7 +9,7 @@ use memory_layout::kinds::control_of;
 use memory_layout::kinds::control_offset;
 use memory_layout::kinds::entry_offset;
 
-pub fn control_byte(book: &[u8], slot: Slot, k: usize, v: usize, slots: usize) -> u8
+pub(crate) fn control_byte(book: &[u8], slot: Slot, k: usize, v: usize, slots: usize) -> u8
     requires { ⌜ Passed (now book) k v slots × (slot .0 < slots) ⌝ }
     ensures { λ r. ⌜ r ≡ control (now (book .entry)) k v slots (slot .0) ⌝ }
 {
@@ -18,14 +18,14 @@ pub fn control_byte(book: &[u8], slot: Slot, k: usize, v: usize, slots: usize) -
 }
 
 // Whether a control byte means empty.
-pub fn is_empty(control: u8) -> bool
+pub(crate) fn is_empty(control: u8) -> bool
     ensures { λ r. ⌜ r ≡ isEmpty control ⌝ }
 {
     128 <= control
 }
 
 // The tag of the key that stands there.
-pub fn key_tag(book: &[u8], slot: Slot, k: usize, v: usize, slots: usize) -> u8
+pub(crate) fn key_tag(book: &[u8], slot: Slot, k: usize, v: usize, slots: usize) -> u8
     requires { ⌜ Passed (now book) k v slots × (slot .0 < slots) ⌝ }
     ensures { λ r. ⌜ r ≡ tagOf (keyOf (now (book .entry)) k v (slot .0)) ⌝ }
 {

@@ -12,3 +12,4 @@ pub mod StoreLaws
 pub mod FreshLaws
 pub mod ExamplesHold
 pub mod AnswerLaws
+pub mod WalkLaws

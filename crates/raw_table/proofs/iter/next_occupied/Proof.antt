@@ -1,6 +1,6 @@
 -- The header's rows decide, or else the first occupied slot from `from` on.
 use borrow.Author.Needs.{needs}
-use mathlib.Core.Path.{_≡_, ap, _∙_}
+use mathlib.Core.Path.{ap, _∙_}
 use Prim.Native.Nat.{ℕ}
 use Rattle.rules.specs.Layout.{occupied}
 use Rattle.rules.specs.Calls.{byRows, nextSays, nextAnswer}
