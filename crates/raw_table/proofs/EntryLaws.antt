@@ -7,14 +7,11 @@ use lib.ListN.{length, take, drop}
 use Rattle.rules.specs.Bounds.{Passed}
 use Rattle.rules.specs.Bytes.{part}
 use Rattle.rules.specs.Layout.{entryAt}
-use Rattle.rules.proofs.LayoutLaws.{entry-fits, total-fits}
+use Rattle.rules.proofs.RowLaws.{inside}
 
 module _ (s : List ℕ) (k v i o : ℕ) (at : o ≡ entryAt k v i) where
   pub entry-within : (S : ℕ) → Passed s k v S → i < S → (o + (k + v) ≤ length s) × (length s < 2 ^ 29)
-  entry-within S p h = (
-    omega (arith, p .long, entry-fits k v S (p .sizes) (p .slots) i h),
-    omega (arith, p .long, total-fits k v S (p .sizes) (p .slots)),
-  )
+  entry-within S p h = let w = inside s k v S i p h in (omega (arith, w .0), w .1)
 
   pub lent-part : (n e : ℕ) → e ≡ o + n → take (e - o) (drop o s) ≡ part n (entryAt k v i) s
   lent-part n e f = let l : e - o ≡ n = omega arith in ap₂ (λ (m a : ℕ). take m (drop a s)) l at
