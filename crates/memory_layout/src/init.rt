@@ -1,10 +1,11 @@
 // A new book.
 ghost use mathlib.Core.Path.{_≡_};
-ghost use mathlib.Core.List.{_++_};
+ghost use mathlib.Core.List.{[], _∷_, _++_};
 ghost use Prim.Native.Nat.{_≤_};
 ghost use lib.ListN.{length, drop};
+ghost use lib.Seq.{sets};
 ghost use Rattle.rules.specs.Bounds.{Sizes, Passed};
-ghost use Rattle.rules.specs.Layout.{header, freshBook};
+ghost use Rattle.rules.specs.Layout.{bookTag, header, freshBook};
 ghost use Rattle.rules.specs.Calls.{initAnswer, initBook};
 ghost use Rattle.memory_layout.specs.Said.{saidMade};
 use crate::header::CURRENT_FILE_FORMAT_VERSION;
@@ -23,16 +24,24 @@ pub enum Made {
     Refused(Refusal),
 }
 
-// The header's 32 bytes: offset, bytes and content as in the document's table.
-fn put_header(book: &mut [u8], k: usize, v: usize, slots: usize, items: u64, load: u16)
+// The header's first 8 bytes, by the document's table: offset, bytes, content.
+fn put_sizes(book: &mut [u8], k: usize, v: usize)
     requires { ⌜ Sizes k v × (32 ≤ length (now book)) ⌝ }
-    ensures { λ _. ⌜ now (book .exit) ≡ header k v slots items load ++ drop 32 (now (book .entry)) ⌝ }
+    ensures { λ _. ⌜ now (book .exit) ≡ sets (now (book .entry)) 0 (bookTag ++ (1 ∷ k ∷ v ∷ 32 ∷ [])) ⌝ }
 {
     put(book, 0, 4, HEADER_TAG as u64);
     put(book, 4, 1, 1);
     put(book, 5, 1, k as u64);
     put(book, 6, 1, v as u64);
     put(book, 7, 1, 32);
+}
+
+// All 32.
+fn put_header(book: &mut [u8], k: usize, v: usize, slots: usize, items: u64, load: u16)
+    requires { ⌜ Sizes k v × (32 ≤ length (now book)) ⌝ }
+    ensures { λ _. ⌜ now (book .exit) ≡ header k v slots items load ++ drop 32 (now (book .entry)) ⌝ }
+{
+    put_sizes(book, k, v);
     put(book, 8, 8, items);
     put(book, 16, 8, slots as u64);
     put(book, 24, 4, CURRENT_FILE_FORMAT_VERSION as u64);
