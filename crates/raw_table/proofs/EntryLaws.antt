@@ -9,8 +9,12 @@ use Rattle.rules.specs.Bytes.{part}
 use Rattle.rules.specs.Layout.{entryAt}
 use Rattle.rules.proofs.RowLaws.{inside}
 
+-- an entry at o ends within the book, and no sum up to there wraps
+abbrev pub Within : List ℕ → ℕ → ℕ → ℕ → Type 0
+Within s k v o = (o + (k + v) ≤ length s) × (length s < 2 ^ 29)
+
 module _ (s : List ℕ) (k v i o : ℕ) (at : o ≡ entryAt k v i) where
-  pub entry-within : (S : ℕ) → Passed s k v S → i < S → (o + (k + v) ≤ length s) × (length s < 2 ^ 29)
+  pub entry-within : (S : ℕ) → Passed s k v S → i < S → Within s k v o
   entry-within S p h = let w = inside s k v S i p h in (omega (arith, w .0), w .1)
 
   pub lent-part : (n e : ℕ) → e ≡ o + n → take (e - o) (drop o s) ≡ part n (entryAt k v i) s

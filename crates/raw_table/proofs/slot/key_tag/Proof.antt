@@ -1,17 +1,14 @@
 -- The part that is hashed is the key of the slot's entry.
 use borrow.Author.Needs.{needs}
 use mathlib.Core.Path.{refl, ap, _∙_}
-use Prim.Native.Nat.{_+_, _^_, _≤_, _<_}
+use Prim.Native.Nat.{_+_}
 use native.Mathlib.Omega.{arith}
-use lib.ListN.{length}
 use Rattle.rules.specs.Hash.{tag, hashOf}
-use Rattle.raw_table.proofs.EntryLaws.{entry-within, lent-part}
+use Rattle.raw_table.proofs.EntryLaws.{Within, entry-within, lent-part}
 use Rattle.raw_table.proofs.slot.key_tag.Statement.{statement}
 use Rattle.raw_table.proofs.slot.key_tag.Tie as tie
 
-inside : (c : tie.After-entry-offset)
-    → (c .entry-offset .result .0 + (c .before .before .args .k + c .before .before .args .v) ≤ length (c .before .before .args .book .now))
-    × (length (c .before .before .args .book .now) < 2 ^ 29)
+inside : (c : tie.After-entry-offset) → Within (c .before .before .args .book .now) (c .before .before .args .k) (c .before .before .args .v) (c .entry-offset .result .0)
 inside c =
     let a = c .before .before .args in
     entry-within (a .book .now) (a .k) (a .v) (a .slot .0) (c .entry-offset .result .0) (c .entry-offset .ensures) (a .slots) (c .before .before .pre .0) (c .before .before .pre .1)
