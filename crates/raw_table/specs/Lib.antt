@@ -1,4 +1,2 @@
 pub mod Seq
 pub mod Said
-pub mod SaidOpen
-pub mod SaidIter

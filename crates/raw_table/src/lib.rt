@@ -1,8 +1,5 @@
-// The table itself: the one search, and the calls that read it.
+// The table: the one search, and the calls that read its answer.
 pub mod find;
 pub mod insert;
-pub mod iter;
-pub mod open;
 pub mod probe;
 pub mod search;
-pub mod slot;

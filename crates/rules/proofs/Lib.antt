@@ -6,6 +6,7 @@ pub mod HashLaws
 pub mod GroupLaws
 pub mod ProbeLaws
 pub mod RowLaws
+pub mod EntryLaws
 pub mod SearchLaws
 pub mod CallLaws
 pub mod StoreLaws

@@ -5,7 +5,7 @@ use mathlib.Core.List.{List}
 use Prim.Native.Nat.{ℕ, _+_}
 use native.Mathlib.Omega.{arith}
 use Rattle.rules.specs.Bytes.{sameBytes}
-use Rattle.raw_table.proofs.EntryLaws.{Within, entry-within, lent-part}
+use Rattle.rules.proofs.EntryLaws.{Within, entry-within, lent-part}
 use Rattle.raw_table.proofs.search.holds.Statement.{statement}
 use Rattle.raw_table.proofs.search.holds.Tie as tie
 

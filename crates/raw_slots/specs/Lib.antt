@@ -1,0 +1,2 @@
+pub mod SaidOpen
+pub mod SaidIter
