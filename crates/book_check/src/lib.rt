@@ -1,0 +1,3 @@
+// The whole-book check.
+pub mod mirror;
+pub mod slot;
