@@ -1,2 +1,3 @@
 pub mod LoopLaws
 pub mod TwinLaws
+pub mod SaidOnce
