@@ -5,13 +5,13 @@ ghost use Rattle.rules.specs.Bounds.{Passed};
 ghost use Rattle.rules.specs.First.{numbers, firstOf};
 ghost use Rattle.rules.specs.Rows.{rowAt};
 ghost use Rattle.rules.specs.Check.{mirrorDiffers};
-ghost use Rattle.raw_table.specs.SaidOpen.{saidFault};
+ghost use Rattle.raw_slots.specs.SaidOpen.{saidFault};
 use memory_layout::kinds::Slot;
 use memory_layout::kinds::control_offset;
 use memory_layout::kinds::mirror_of;
 use memory_layout::refusal::fault_at;
-use raw_table::open::Fault;
-use raw_table::slot::control_byte;
+use raw_slots::open::Fault;
+use raw_slots::slot::control_byte;
 
 fn mirror_differs(book: &[u8], slot: Slot, k: usize, v: usize, slots: usize) -> bool
     requires { ⌜ Passed (now book) k v slots × (slot .0 < 16) ⌝ }

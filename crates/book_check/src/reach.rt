@@ -6,13 +6,13 @@ ghost use Rattle.rules.specs.First.{numbers, firstOf};
 ghost use Rattle.rules.specs.Probe.{slotAt};
 ghost use Rattle.rules.specs.Rows.{rowAt};
 ghost use Rattle.rules.specs.Check.{filled, reachable, isLost};
-ghost use Rattle.raw_table.specs.SaidOpen.{saidFault};
+ghost use Rattle.raw_slots.specs.SaidOpen.{saidFault};
 use crate::slot::is_occupied;
 use crate::slot::key_start;
 use memory_layout::kinds::Slot;
 use memory_layout::kinds::wrap;
 use memory_layout::refusal::fault_at;
-use raw_table::open::Fault;
+use raw_slots::open::Fault;
 
 // The slot at place n of the probe order from b.
 pub fn slot_at(b: usize, n: usize, slots: usize) -> Slot

@@ -9,9 +9,9 @@ ghost use Rattle.rules.specs.Layout.{keyOf, occupied};
 use memory_layout::kinds::Slot;
 use memory_layout::kinds::entry_offset;
 use memory_layout::kinds::wrap;
+use raw_slots::slot::control_byte;
+use raw_slots::slot::is_empty;
 use raw_table::search::holds;
-use raw_table::slot::control_byte;
-use raw_table::slot::is_empty;
 
 pub fn is_occupied(book: &[u8], slot: Slot, k: usize, v: usize, slots: usize) -> bool
     requires { ⌜ Passed (now book) k v slots × (slot .0 < slots) ⌝ }

@@ -7,14 +7,14 @@ ghost use Rattle.rules.specs.Layout.{keyOf};
 ghost use Rattle.rules.specs.Rows.{rowAt};
 ghost use Rattle.rules.specs.Search.{spotOf};
 ghost use Rattle.rules.specs.Check.{isTwin};
-ghost use Rattle.raw_table.specs.SaidOpen.{saidFault};
+ghost use Rattle.raw_slots.specs.SaidOpen.{saidFault};
 ghost use Rattle.book_check.specs.Quick.{leadsTo, foundOwn, standsIn};
 use crate::slot::has_key_of;
 use crate::slot::is_occupied;
 use crate::slot::key_of;
 use memory_layout::kinds::Slot;
 use memory_layout::refusal::fault_at;
-use raw_table::open::Fault;
+use raw_slots::open::Fault;
 use raw_table::search::Spot;
 use raw_table::search::search;
 

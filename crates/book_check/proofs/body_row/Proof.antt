@@ -7,7 +7,7 @@ use Rattle.rules.specs.First.{numbers, firstOf, firstSome}
 use Rattle.rules.specs.Rows.{rowAt, slotRows}
 use Rattle.rules.specs.Check.{mirrorDiffers, isTwin, isLost, bodyRows}
 use Rattle.rules.proofs.FirstLaws.{last-row}
-use Rattle.raw_table.specs.SaidOpen.{saidFault}
+use Rattle.raw_slots.specs.SaidOpen.{saidFault}
 use Rattle.book_check.proofs.body_row.Statement.{statement}
 use Rattle.book_check.proofs.body_row.Tie as tie
 

@@ -11,7 +11,7 @@ use Rattle.rules.specs.Check.{bodyRows, checkAnswer}
 use Rattle.rules.proofs.AnswerLaws.{by-earlier, by-later}
 use Rattle.memory_layout.specs.Said.{saidRefusal}
 use Rattle.memory_layout.proofs.CheckedLaws.{Checks, slots-checks, refused-fails}
-use Rattle.raw_table.specs.SaidOpen.{saidFault}
+use Rattle.raw_slots.specs.SaidOpen.{saidFault}
 use Rattle.book_check.specs.Said.{saidVerdict}
 use Rattle.book_check.proofs.check_book.Statement.{statement}
 use Rattle.book_check.proofs.check_book.Tie as tie

@@ -7,7 +7,7 @@ use native.Mathlib.Omega.{arith}
 use Rattle.rules.specs.First.{numbers, firstOf}
 use Rattle.rules.specs.Rows.{rowAt}
 use Rattle.rules.specs.Check.{isLost}
-use Rattle.raw_table.specs.SaidOpen.{saidFault}
+use Rattle.raw_slots.specs.SaidOpen.{saidFault}
 use Rattle.book_check.proofs.LoopLaws.{Row, row-start, row-here, row-next, row-end}
 use Rattle.book_check.proofs.reach.lost_row.Statement.{statement}
 use Rattle.book_check.proofs.reach.lost_row.Tie as tie

@@ -4,7 +4,7 @@ use mathlib.Core.Path.{refl}
 use Prim.Native.Nat.{_+_, _^_, _≤_, _<_}
 use native.Mathlib.Omega.{arith}
 use lib.ListN.{length}
-use Rattle.raw_table.proofs.EntryLaws.{entry-within, lent-part}
+use Rattle.rules.proofs.EntryLaws.{entry-within, lent-part}
 use Rattle.book_check.proofs.slot.key_of.Statement.{statement}
 use Rattle.book_check.proofs.slot.key_of.Tie as tie
 

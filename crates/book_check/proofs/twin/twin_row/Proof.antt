@@ -2,7 +2,7 @@
 use borrow.Author.Needs.{needs}
 use mathlib.Core.Path.{sym, ap, _∙_}
 use Rattle.rules.specs.Rows.{rowAt}
-use Rattle.raw_table.specs.SaidOpen.{saidFault}
+use Rattle.raw_slots.specs.SaidOpen.{saidFault}
 use Rattle.book_check.proofs.TwinLaws.{no-twins}
 use Rattle.book_check.proofs.twin.twin_row.Statement.{statement}
 use Rattle.book_check.proofs.twin.twin_row.Tie as tie
