@@ -21,7 +21,7 @@ fn mirror_differs(book: &[u8], slot: Slot, k: usize, v: usize, slots: usize) -> 
     book[at] != control_byte(book, slot, k, v, slots)
 }
 
-pub fn mirror_row(book: &[u8], k: usize, v: usize, slots: usize) -> Fault
+pub(crate) fn mirror_row(book: &[u8], k: usize, v: usize, slots: usize) -> Fault
     requires { ⌜ Passed (now book) k v slots ⌝ }
     ensures { λ r. ⌜ saidFault r ≡ rowAt 15 (firstOf (mirrorDiffers (now (book .entry)) k v slots) (numbers 0 16)) ⌝ }
 {

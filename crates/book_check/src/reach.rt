@@ -15,7 +15,7 @@ use memory_layout::refusal::fault_at;
 use raw_slots::open::Fault;
 
 // The slot at place n of the probe order from b.
-pub fn slot_at(b: usize, n: usize, slots: usize) -> Slot
+fn slot_at(b: usize, n: usize, slots: usize) -> Slot
     requires { ⌜ Slots slots × (b < slots) × (n < slots) ⌝ }
     ensures { λ r. ⌜ (r .0 ≡ slotAt b slots n) × (r .0 < slots) ⌝ }
 {
@@ -39,7 +39,7 @@ fn is_filled(book: &[u8], b: usize, n: usize, k: usize, v: usize, slots: usize) 
 }
 
 // Whether a slot's key is reachable: its place is looked up in the key's probe order.
-pub fn is_reachable(book: &[u8], slot: Slot, k: usize, v: usize, slots: usize) -> bool
+fn is_reachable(book: &[u8], slot: Slot, k: usize, v: usize, slots: usize) -> bool
     requires { ⌜ Passed (now book) k v slots × (slot .0 < slots) ⌝ }
     ensures { λ r. ⌜ r ≡ reachable (now (book .entry)) k v slots (slot .0) ⌝ }
 {
@@ -65,7 +65,7 @@ fn is_lost(book: &[u8], slot: Slot, k: usize, v: usize, slots: usize) -> bool
     !is_reachable(book, slot, k, v, slots)
 }
 
-pub fn lost_row(book: &[u8], k: usize, v: usize, slots: usize) -> Fault
+pub(crate) fn lost_row(book: &[u8], k: usize, v: usize, slots: usize) -> Fault
     requires { ⌜ Passed (now book) k v slots ⌝ }
     ensures { λ r. ⌜ saidFault r ≡ rowAt 17 (firstOf (isLost (now (book .entry)) k v slots) (numbers 0 slots)) ⌝ }
 {

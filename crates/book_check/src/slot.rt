@@ -13,7 +13,7 @@ use raw_slots::slot::control_byte;
 use raw_slots::slot::is_empty;
 use raw_table::search::holds;
 
-pub fn is_occupied(book: &[u8], slot: Slot, k: usize, v: usize, slots: usize) -> bool
+pub(crate) fn is_occupied(book: &[u8], slot: Slot, k: usize, v: usize, slots: usize) -> bool
     requires { ⌜ Passed (now book) k v slots × (slot .0 < slots) ⌝ }
     ensures { λ r. ⌜ r ≡ occupied (now (book .entry)) k v slots (slot .0) ⌝ }
 {
@@ -21,7 +21,7 @@ pub fn is_occupied(book: &[u8], slot: Slot, k: usize, v: usize, slots: usize) ->
 }
 
 // The key that stands in a slot, as a part of the book.
-pub fn key_of(book: &[u8], slot: Slot, k: usize, v: usize, slots: usize) -> &[u8]
+pub(crate) fn key_of(book: &[u8], slot: Slot, k: usize, v: usize, slots: usize) -> &[u8]
     requires { ⌜ Passed (now book) k v slots × (slot .0 < slots) ⌝ }
     ensures { λ r. ⌜ now r ≡ keyOf (now (book .entry)) k v (slot .0) ⌝ }
 {
@@ -31,7 +31,7 @@ pub fn key_of(book: &[u8], slot: Slot, k: usize, v: usize, slots: usize) -> &[u8
 }
 
 // Where the search for a slot's key starts.
-pub fn key_start(book: &[u8], slot: Slot, k: usize, v: usize, slots: usize) -> usize
+pub(crate) fn key_start(book: &[u8], slot: Slot, k: usize, v: usize, slots: usize) -> usize
     requires { ⌜ Passed (now book) k v slots × (slot .0 < slots) ⌝ }
     ensures { λ r. ⌜ (r ≡ startOf slots (keyOf (now (book .entry)) k v (slot .0))) × (r < slots) ⌝ }
 {
@@ -40,7 +40,14 @@ pub fn key_start(book: &[u8], slot: Slot, k: usize, v: usize, slots: usize) -> u
 }
 
 // Whether a slot is occupied, by the key of another.
-pub fn has_key_of(book: &[u8], slot: Slot, other: Slot, k: usize, v: usize, slots: usize) -> bool
+pub(crate) fn has_key_of(
+    book: &[u8],
+    slot: Slot,
+    other: Slot,
+    k: usize,
+    v: usize,
+    slots: usize,
+) -> bool
     requires { ⌜ Passed (now book) k v slots × (slot .0 < slots) × (other .0 < slots) ⌝ }
     ensures { λ r. ⌜ r ≡ occupied (now (book .entry)) k v slots (slot .0) && sameBytes (keyOf (now (book .entry)) k v (slot .0)) (keyOf (now (book .entry)) k v (other .0)) ⌝ }
 {

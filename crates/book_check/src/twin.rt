@@ -43,7 +43,7 @@ fn found_own(book: &[u8], slot: Slot, k: usize, v: usize, slots: usize) -> bool
 }
 
 // Whether every key is found in its slot.
-pub fn all_found(book: &[u8], k: usize, v: usize, slots: usize) -> bool
+fn all_found(book: &[u8], k: usize, v: usize, slots: usize) -> bool
     requires { ⌜ Passed (now book) k v slots ⌝ }
     ensures { λ r. ⌜ r ≡ eachOf (foundOwn (now (book .entry)) k v slots) (numbers 0 slots) ⌝ }
 {
@@ -97,7 +97,7 @@ fn lowest_twin(book: &[u8], k: usize, v: usize, slots: usize) -> Fault
     Fault::Nothing
 }
 
-pub fn twin_row(book: &[u8], k: usize, v: usize, slots: usize) -> Fault
+pub(crate) fn twin_row(book: &[u8], k: usize, v: usize, slots: usize) -> Fault
     requires { ⌜ Passed (now book) k v slots ⌝ }
     ensures { λ r. ⌜ saidFault r ≡ rowAt 16 (firstOf (isTwin (now (book .entry)) k v slots) (numbers 0 slots)) ⌝ }
 {

@@ -32,7 +32,7 @@ unfolding saidFault
 returns c =
     let a = c .before .before .before .before .before .before .args in
     let l = c .before .before .before .before .loop in
-    let f = row-here 16 (isTwin (a .book .now) (a .k) (a .v) (a .slots)) (a .slots) (l .i) (c .before .before .before .loop-test .taken) (sym (c .before .before .is-twin .ensures) ∙ c .before .if1 .taken) in
+    let f = row-here 16 (isTwin (a .book .now) (a .k) (a .v) (a .slots)) (a .slots) (l .i) (omega (arith, c .before .before .before .loop-test .taken)) (sym (c .before .before .is-twin .ensures) ∙ c .before .if1 .taken) in
     ap some (c .fault-at .ensures) ∙ sym (l .inv ∙ f)
 
 add-i : tie.Need-add-i Inv-loop μ-loop
@@ -45,7 +45,7 @@ loop-again : tie.Need-loop-again Inv-loop μ-loop
 loop-again c =
     let a = c .before .before .before .before .before .args in
     let l = c .before .before .before .loop in
-    l .inv ∙ row-next 16 (isTwin (a .book .now) (a .k) (a .v) (a .slots)) (a .slots) (l .i) (c .before .before .loop-test .taken) (sym (c .before .is-twin .ensures) ∙ c .if1 .left)
+    l .inv ∙ row-next 16 (isTwin (a .book .now) (a .k) (a .v) (a .slots)) (a .slots) (l .i) (omega (arith, c .before .before .loop-test .taken)) (sym (c .before .is-twin .ensures) ∙ c .if1 .left)
 
 returns-2 : tie.Need-returns-2 Inv-loop μ-loop
 unfolding saidFault
