@@ -1,20 +1,27 @@
 -- The search group by group, for any width and any query: after j groups that did not decide, the whole is what the rest gives.
 -- Assumes nothing.
-use mathlib.Core.Path.{_≡_, refl, _∙_}
+use mathlib.Core.Path.{_≡_, refl, ap, _∙_}
 use mathlib.Core.Bool.{Bool, true, false, cond}
 use mathlib.Core.List.{List, [], _∷_}
 use mathlib.Core.Option.{Option, none, some}
-use Prim.Native.Nat.{ℕ, zero, suc, _+_, _-_, _/_, _≤_, _<_}
-use native.Mathlib.Nat.{sub-zero, mod-lt}
+use Prim.Native.Nat.{ℕ, zero, suc, _+_, _-_, _*_, _/_, _≤_, _<_}
+use native.Mathlib.Nat.{sub-zero, mod-lt, add-assoc}
 use native.Mathlib.Numerals.{add-one}
 use native.Mathlib.Omega.{arith}
-use Rattle.rules.specs.Bytes.{part, sameBytes}
+use lib.ListN.{drop}
+use lib.Seq.{getD-take, getD-drop}
+use Rattle.rules.specs.Bytes.{byteAt, part, sameBytes}
 use Rattle.rules.specs.First.{firstOf}
-use Rattle.rules.specs.Layout.{controlAt, keyOf}
+use Rattle.rules.specs.Layout.{controlAt, keyOf, control}
 use Rattle.rules.specs.Hash.{startOf}
 use Rattle.rules.specs.Group.{firstEmpty}
 use Rattle.rules.specs.Probe.{groupStart, slotOf}
-use Rattle.rules.specs.Search.{Spot, same, free, full, decided, equalKey, examined, searchFrom, searchBy}
+use Rattle.rules.specs.Search.{Spot, groupAt, same, free, full, decided, equalKey, examined, searchFrom, searchBy}
+
+-- position m of the group at p is control position p + m, a mirror where that is S or more
+pub group-byte : (w : ℕ) (s : List ℕ) (k v S p m : ℕ) → m < w → byteAt (groupAt w s k v S p) m ≡ control s k v S (p + m)
+group-byte w s k v S p m h =
+    getD-take w (drop (controlAt k v S p) s) m 0 h ∙ getD-drop (controlAt k v S p) s m 0 ∙ ap (byteAt s) (add-assoc (32 + S * (k + v)) p m)
 
 -- the first of a list is tried, and has it or not
 pub try-yes : (test : ℕ → Bool) (m : ℕ) (ms : List ℕ) → test m ≡ true → firstOf test (m ∷ ms) ≡ some m

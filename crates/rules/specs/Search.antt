@@ -22,16 +22,20 @@ decided S p n (some m) empty rest = same (slotOf S p m) n
 decided S p n none (some m) rest = free (slotOf S p m) n
 decided S p n none none rest = rest
 
+-- the w control bytes from position p on, read without wrapping: behind the last of them come the mirrors
+abbrev pub groupAt : ℕ → List ℕ → ℕ → ℕ → ℕ → ℕ → List ℕ
+groupAt w s k v S p = part w (controlAt k v S p) s
+
 module _ (w : ℕ) (query : ℕ → List ℕ → List Bool) (s : List ℕ) (k v S : ℕ) (key : List ℕ) where
   -- the first reported position of the group at p, in rising order, whose slot holds the key
   unfoldable pub equalKey : ℕ → Option ℕ
   equalKey p =
       firstOf (λ m. sameBytes (keyOf s k v (slotOf S p m)) key)
-      (positions 0 (query (tagOf key) (part w (controlAt k v S p) s)))
+      (positions 0 (query (tagOf key) (groupAt w s k v S p)))
 
-  -- the n-th group, at p, read without wrapping
+  -- the n-th group, at p
   unfoldable pub examined : ℕ → ℕ → Spot → Spot
-  examined p n rest = decided S p n (equalKey p) (firstEmpty (part w (controlAt k v S p) s)) rest
+  examined p n rest = decided S p n (equalKey p) (firstEmpty (groupAt w s k v S p)) rest
 
   -- `left` more groups, after j of them
   unfoldable pub searchFrom : ℕ → ℕ → Spot
