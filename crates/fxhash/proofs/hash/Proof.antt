@@ -1,3 +1,4 @@
+-- The invariant: the hash of the bytes is what the rest from i on makes of h. Behind the loop each width is taken or left, by one law over the width.
 use borrow.Author.Needs.{needs}
 use denote.Ref.{now}
 use mathlib.Core.Path.{_≡_, refl, sym, ap, _∙_}
@@ -11,15 +12,6 @@ use Rattle.rules.proofs.BytesLaws.{part-one}
 use Rattle.rules.proofs.HashLaws.{once-taken, once-left, eight-taken, eight-left}
 use Rattle.fxhash.proofs.hash.Statement.{statement}
 use Rattle.fxhash.proofs.hash.Tie as tie
-use Rattle.fxhash.proofs.hash.Reads as reads
-use Rattle.fxhash.proofs.hash.Lts as lts
-use Rattle.fxhash.proofs.add_to_hash.Reads as add-to-hash-reads
-use Rattle.fxhash.proofs.read_u16.Reads as read-u16-reads
-use Rattle.fxhash.proofs.read_u32.Reads as read-u32-reads
-use Rattle.fxhash.proofs.read_u64.Reads as read-u64-reads
-use Rattle.fxhash.proofs.wide16.Reads as wide16-reads
-use Rattle.fxhash.proofs.wide32.Reads as wide32-reads
-use Rattle.fxhash.proofs.wide64.Reads as wide64-reads
 
 abbrev Inv-loop : tie.InvT-loop
 Inv-loop bytes h₀ i₀ h i = (i ≤ length bytes) × (eights ((length bytes - i) / 8) h (drop i bytes) ≡ eights (length bytes / 8) 0 bytes)

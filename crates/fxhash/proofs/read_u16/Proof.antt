@@ -1,3 +1,4 @@
+-- Two bytes are the first and the one after it: the law of parts at 1 and 1.
 use borrow.Author.Needs.{needs}
 use denote.Ref.{now}
 use Prim.Native.Nat.{_+_}
@@ -5,8 +6,6 @@ use native.Mathlib.Omega.{arith}
 use Rattle.rules.proofs.BytesLaws.{part-add, part-one}
 use Rattle.fxhash.proofs.read_u16.Statement.{statement}
 use Rattle.fxhash.proofs.read_u16.Tie as tie
-use Rattle.fxhash.proofs.read_u16.Reads as reads
-use Rattle.fxhash.proofs.read_u16.Lts as lts
 
 shared-slice-read-wide16 : tie.Need-shared-slice-read-wide16
 shared-slice-read-wide16 c = search needs

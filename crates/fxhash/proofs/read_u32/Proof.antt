@@ -1,3 +1,4 @@
+-- Four bytes are two and two: the law of parts at 2 and 2.
 use borrow.Author.Needs.{needs}
 use denote.Ref.{now}
 use Prim.Native.Nat.{_+_}
@@ -5,8 +6,6 @@ use native.Mathlib.Omega.{arith}
 use Rattle.rules.proofs.BytesLaws.{part-add}
 use Rattle.fxhash.proofs.read_u32.Statement.{statement}
 use Rattle.fxhash.proofs.read_u32.Tie as tie
-use Rattle.fxhash.proofs.read_u32.Reads as reads
-use Rattle.fxhash.proofs.read_u32.Lts as lts
 
 read-u16-requires : tie.Need-read-u16-requires
 read-u16-requires c κs = search needs

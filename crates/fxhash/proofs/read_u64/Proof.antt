@@ -1,3 +1,4 @@
+-- Eight bytes are four and four: the law of parts at 4 and 4.
 use borrow.Author.Needs.{needs}
 use denote.Ref.{now}
 use Prim.Native.Nat.{_+_}
@@ -5,8 +6,6 @@ use native.Mathlib.Omega.{arith}
 use Rattle.rules.proofs.BytesLaws.{part-add}
 use Rattle.fxhash.proofs.read_u64.Statement.{statement}
 use Rattle.fxhash.proofs.read_u64.Tie as tie
-use Rattle.fxhash.proofs.read_u64.Reads as reads
-use Rattle.fxhash.proofs.read_u64.Lts as lts
 
 read-u32-requires : tie.Need-read-u32-requires
 read-u32-requires c κs = search needs

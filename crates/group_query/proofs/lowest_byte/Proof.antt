@@ -1,3 +1,4 @@
+-- A count of zeros is at most 64, so it fits.
 use mathlib.Core.Path.{refl}
 use native.Mathlib.Omega.{arith}
 use lib.Count.{trailing-le}

@@ -1,9 +1,9 @@
+-- A byte times 01 01 .. 01 is the byte in each place.
 use native.Mathlib.Omega.{arith}
 use Rattle.rules.specs.Bytes.{le}
 use borrow.Author.Needs.{needs}
 use Rattle.group_query.proofs.repeat.Statement.{statement}
 use Rattle.group_query.proofs.repeat.Tie as tie
-use Rattle.group_query.proofs.wide.Reads as wide-reads
 
 wide-requires : tie.Need-wide-requires
 wide-requires c κs = search needs

@@ -1,3 +1,4 @@
+-- The two masks are the bit trick's, by its law at eight bytes.
 use mathlib.Core.Path.{_≡_, refl, sym, ap, ap₂, _∙_}
 use Prim.Native.Nat.{ℕ, _+_, _*_, _/_, _≤_}
 use native.Mathlib.Omega.{arith}
@@ -9,9 +10,6 @@ use Rattle.group_query.proofs.QueryLaws.{query-at, empties-at}
 use borrow.Author.Needs.{needs}
 use Rattle.group_query.proofs.GroupQuery.from.Statement.{statement}
 use Rattle.group_query.proofs.GroupQuery.from.Tie as tie
-use Rattle.fxhash.proofs.read_u64.Reads as read-u64-reads
-use Rattle.group_query.proofs.repeat.Reads as repeat-reads
-use Rattle.std.proofs.num.wrapping_sub_u64.Reads as wrapping-sub-u64-reads
 
 read-u64-requires : tie.Need-read-u64-requires
 read-u64-requires c κs = search needs
