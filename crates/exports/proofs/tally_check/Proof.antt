@@ -1,14 +1,14 @@
+-- Without room nothing was done; with it, the store leaves the numbers of what the call said. Assumes nothing.
 use borrow.Author.Needs.{needs}
+use borrow.Author.Tests.{eq-eqb, ne-eqb}
+use mathlib.Core.Path.{ap, _∙_}
+use lib.ListN.{length}
+use Rattle.exports.specs.Numbers.{numbers}
 use Rattle.exports.proofs.tally_check.Statement.{statement}
 use Rattle.exports.proofs.tally_check.Tie as tie
-use Rattle.exports.proofs.tally_check.Reads as reads
-use Rattle.exports.proofs.tally_check.Lts as lts
-use Rattle.book_check.proofs.check_book.Reads as check-book-reads
-use Rattle.exports.proofs.numbers.of_verdict.Reads as of-verdict-reads
-use Rattle.exports.proofs.numbers.store.Reads as store-reads
 
 returns : tie.Need-returns
-returns c = search needs
+returns c = let e = ne-eqb (length (c .before .before .before .args .answer .now)) 8 (c .if1 .taken) in (rw e, rw e)
 
 check-book-requires : tie.Need-check-book-requires
 check-book-requires c κs = search needs
@@ -23,7 +23,9 @@ same-length : tie.Need-same-length
 same-length c = search needs
 
 returns-2 : tie.Need-returns-2
-returns-2 c = search needs
+returns-2 c =
+    let e = eq-eqb (length (c .before .before .before .before .before .before .before .before .before .args .answer .now)) 8 (c .before .before .before .before .before .before .if1 .left) in
+    (rw e, rw e (c .before .before .store .ensures ∙ c .before .before .before .of-verdict .ensures ∙ ap numbers (c .before .before .before .before .check-book .ensures)))
 
 pub tally-check-spec : {M : Type 1} → statement M
 tally-check-spec =

@@ -1,14 +1,14 @@
+-- Without room nothing was done; with it, the store leaves the numbers of what the call said. Assumes nothing.
 use borrow.Author.Needs.{needs}
+use borrow.Author.Tests.{eq-eqb, ne-eqb}
+use mathlib.Core.Path.{ap, _∙_}
+use lib.ListN.{length}
+use Rattle.exports.specs.Numbers.{numbers}
 use Rattle.exports.proofs.tally_find.Statement.{statement}
 use Rattle.exports.proofs.tally_find.Tie as tie
-use Rattle.exports.proofs.tally_find.Reads as reads
-use Rattle.exports.proofs.tally_find.Lts as lts
-use Rattle.exports.proofs.numbers.of_found.Reads as of-found-reads
-use Rattle.exports.proofs.numbers.store.Reads as store-reads
-use Rattle.raw_table.proofs.find.find.Reads as find-reads
 
 returns : tie.Need-returns
-returns c = search needs
+returns c = let e = ne-eqb (length (c .before .before .before .before .args .answer .now)) 8 (c .if1 .taken) in (rw e, rw e)
 
 find-requires : tie.Need-find-requires
 find-requires c κs = search needs
@@ -23,7 +23,9 @@ same-length : tie.Need-same-length
 same-length c = search needs
 
 returns-2 : tie.Need-returns-2
-returns-2 c = search needs
+returns-2 c =
+    let e = eq-eqb (length (c .before .before .before .before .before .before .before .before .before .before .args .answer .now)) 8 (c .before .before .before .before .before .before .if1 .left) in
+    (rw e, rw e (c .before .before .store .ensures ∙ c .before .before .before .of-found .ensures ∙ ap numbers (c .before .before .before .before .find .ensures)))
 
 pub tally-find-spec : {M : Type 1} → statement M
 tally-find-spec =

@@ -1,14 +1,14 @@
+-- Without room nothing was done; with it, the store leaves the numbers of what the call said. Assumes nothing.
 use borrow.Author.Needs.{needs}
+use borrow.Author.Tests.{eq-eqb, ne-eqb}
+use mathlib.Core.Path.{ap, _∙_}
+use lib.ListN.{length}
+use Rattle.exports.specs.Numbers.{numbers}
 use Rattle.exports.proofs.tally_init.Statement.{statement}
 use Rattle.exports.proofs.tally_init.Tie as tie
-use Rattle.exports.proofs.tally_init.Reads as reads
-use Rattle.exports.proofs.tally_init.Lts as lts
-use Rattle.exports.proofs.numbers.of_made.Reads as of-made-reads
-use Rattle.exports.proofs.numbers.store.Reads as store-reads
-use Rattle.memory_layout.proofs.init.init_in_place.Reads as init-in-place-reads
 
 returns : tie.Need-returns
-returns c = search needs
+returns c = let e = ne-eqb (length (c .before .before .before .args .answer .now)) 8 (c .if1 .taken) in (rw e, (rw e, rw e))
 
 init-in-place-requires : tie.Need-init-in-place-requires
 init-in-place-requires c κs = search needs
@@ -26,7 +26,9 @@ same-length-2 : tie.Need-same-length-2
 same-length-2 c = search needs
 
 returns-2 : tie.Need-returns-2
-returns-2 c = search needs
+returns-2 c =
+    let e = eq-eqb (length (c .before .before .before .before .before .before .before .before .before .before .before .before .args .answer .now)) 8 (c .before .before .before .before .before .before .before .before .before .if1 .left) in
+    (rw e, (rw e (c .before .before .store .ensures ∙ c .before .before .before .of-made .ensures ∙ ap numbers (c .before .before .before .before .before .before .init-in-place .ensures .0)), rw e (c .before .before .before .before .before .before .init-in-place .ensures .1)))
 
 pub tally-init-spec : {M : Type 1} → statement M
 tally-init-spec =

@@ -1,14 +1,14 @@
+-- Without room nothing was done; with it, the store leaves the numbers of what the call said. Assumes nothing.
 use borrow.Author.Needs.{needs}
+use borrow.Author.Tests.{eq-eqb, ne-eqb}
+use mathlib.Core.Path.{ap, _∙_}
+use lib.ListN.{length}
+use Rattle.exports.specs.Numbers.{numbers}
 use Rattle.exports.proofs.tally_insert.Statement.{statement}
 use Rattle.exports.proofs.tally_insert.Tie as tie
-use Rattle.exports.proofs.tally_insert.Reads as reads
-use Rattle.exports.proofs.tally_insert.Lts as lts
-use Rattle.exports.proofs.numbers.of_inserted.Reads as of-inserted-reads
-use Rattle.exports.proofs.numbers.store.Reads as store-reads
-use Rattle.raw_table.proofs.insert.insert.Reads as insert-reads
 
 returns : tie.Need-returns
-returns c = search needs
+returns c = let e = ne-eqb (length (c .before .before .before .before .before .before .args .answer .now)) 8 (c .if1 .taken) in (rw e, (rw e, (rw e, rw e)))
 
 insert-requires : tie.Need-insert-requires
 insert-requires c κs = search needs
@@ -29,7 +29,9 @@ same-length-3 : tie.Need-same-length-3
 same-length-3 c = search needs
 
 returns-2 : tie.Need-returns-2
-returns-2 c = search needs
+returns-2 c =
+    let e = eq-eqb (length (c .before .before .before .before .before .before .before .before .before .before .before .before .before .before .before .before .before .before .args .answer .now)) 8 (c .before .before .before .before .before .before .before .before .before .before .before .before .if1 .left) in
+    (rw e, (rw e (c .before .before .store .ensures ∙ c .before .before .before .of-inserted .ensures ∙ ap numbers (c .before .before .before .before .before .before .before .before .insert .ensures .0)), (rw e (c .before .before .before .before .before .before .before .before .insert .ensures .1 .0), rw e (c .before .before .before .before .before .before .before .before .insert .ensures .1 .1))))
 
 pub tally-insert-spec : {M : Type 1} → statement M
 tally-insert-spec =

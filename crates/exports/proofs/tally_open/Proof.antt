@@ -1,14 +1,14 @@
+-- Without room nothing was done; with it, the store leaves the numbers of what the call said. Assumes nothing.
 use borrow.Author.Needs.{needs}
+use borrow.Author.Tests.{eq-eqb, ne-eqb}
+use mathlib.Core.Path.{ap, _∙_}
+use lib.ListN.{length}
+use Rattle.exports.specs.Numbers.{numbers}
 use Rattle.exports.proofs.tally_open.Statement.{statement}
 use Rattle.exports.proofs.tally_open.Tie as tie
-use Rattle.exports.proofs.tally_open.Reads as reads
-use Rattle.exports.proofs.tally_open.Lts as lts
-use Rattle.exports.proofs.numbers.of_opened.Reads as of-opened-reads
-use Rattle.exports.proofs.numbers.store.Reads as store-reads
-use Rattle.raw_slots.proofs.open.open.Reads as open-reads
 
 returns : tie.Need-returns
-returns c = search needs
+returns c = let e = ne-eqb (length (c .before .before .before .args .answer .now)) 8 (c .if1 .taken) in (rw e, rw e)
 
 open-requires : tie.Need-open-requires
 open-requires c κs = search needs
@@ -23,7 +23,9 @@ same-length : tie.Need-same-length
 same-length c = search needs
 
 returns-2 : tie.Need-returns-2
-returns-2 c = search needs
+returns-2 c =
+    let e = eq-eqb (length (c .before .before .before .before .before .before .before .before .before .args .answer .now)) 8 (c .before .before .before .before .before .before .if1 .left) in
+    (rw e, rw e (c .before .before .store .ensures ∙ c .before .before .before .of-opened .ensures ∙ ap numbers (c .before .before .before .before .«open» .ensures)))
 
 pub tally-open-spec : {M : Type 1} → statement M
 tally-open-spec =

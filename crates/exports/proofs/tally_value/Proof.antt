@@ -1,13 +1,13 @@
+-- Without room nothing was done; with it, the store leaves the numbers of what the call said. Assumes nothing.
 use borrow.Author.Needs.{needs}
+use borrow.Author.Tests.{eq-eqb, ne-eqb}
+use mathlib.Core.Path.{_∙_}
+use lib.ListN.{length}
 use Rattle.exports.proofs.tally_value.Statement.{statement}
 use Rattle.exports.proofs.tally_value.Tie as tie
-use Rattle.exports.proofs.tally_value.Reads as reads
-use Rattle.exports.proofs.tally_value.Lts as lts
-use Rattle.exports.proofs.numbers.store.Reads as store-reads
-use Rattle.exports.proofs.value.value_numbers.Reads as value-numbers-reads
 
 returns : tie.Need-returns
-returns c = search needs
+returns c = let e = ne-eqb (length (c .before .before .before .before .args .answer .now)) 8 (c .if1 .taken) in (rw e, rw e)
 
 value-numbers-requires : tie.Need-value-numbers-requires
 value-numbers-requires c κs = search needs
@@ -19,7 +19,9 @@ same-length : tie.Need-same-length
 same-length c = search needs
 
 returns-2 : tie.Need-returns-2
-returns-2 c = search needs
+returns-2 c =
+    let e = eq-eqb (length (c .before .before .before .before .before .before .before .before .before .args .answer .now)) 8 (c .before .before .before .before .before .if1 .left) in
+    (rw e, rw e (c .before .before .store .ensures ∙ c .before .before .before .value-numbers .ensures))
 
 pub tally-value-spec : {M : Type 1} → statement M
 tally-value-spec =
