@@ -1,1 +1,3 @@
 pub mod StoreLaws
+pub mod ValueLaws
+pub mod SaidOnce

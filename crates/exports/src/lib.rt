@@ -1,5 +1,5 @@
 // The calls for Rust or C. A slice is a pointer and a length, and an answer is eight numbers: outcome, row, slot, expected, found, count, offset, length.
-// Each returns 0; or 1 where `answer` has no room for eight, or more than that, and then nothing was done.
+// Each returns 0, or 1 where the length of `answer` is not 8, and then nothing was done.
 ghost use mathlib.Core.Path.{_≡_};
 ghost use Rattle.rules.specs.Calls.{initAnswer, initBook, openAnswer, findAnswer, insertAnswer, insertBook, insertOld, nextAnswer};
 ghost use Rattle.rules.specs.Check.{checkAnswer};
