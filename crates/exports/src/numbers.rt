@@ -22,33 +22,35 @@ fn wide(x: u8) -> u64
     x as u64
 }
 
-// An outcome with the slot, the byte found and the number of groups.
-fn told(outcome: u64, slot: usize, found: u8, count: usize) -> [u64; 8]
-    ensures { λ r. ⌜ r ≡ told outcome 0 slot 0 found count ⌝ }
+// An answer that tells no part of the book.
+fn told(outcome: u64, row: usize, slot: usize, expected: u8, found: u8, count: usize) -> [u64; 8]
+    ensures { λ r. ⌜ r ≡ told outcome row slot expected found count ⌝ }
 {
-    [outcome, 0, slot as u64, 0, wide(found), count as u64, 0, 0]
-}
-
-fn of_refusal(refusal: Refusal) -> [u64; 8]
-    ensures { λ r. ⌜ r ≡ numbers (refused (saidRefusal refusal)) ⌝ }
-{
+    let expected = wide(expected);
+    let found = wide(found);
     [
-        0,
-        refusal.row as u64,
-        refusal.slot as u64,
-        wide(refusal.expected),
-        wide(refusal.found),
-        refusal.count as u64,
+        outcome,
+        row as u64,
+        slot as u64,
+        expected,
+        found,
+        count as u64,
         0,
         0,
     ]
+}
+
+fn of_refusal(r: Refusal) -> [u64; 8]
+    ensures { λ n. ⌜ n ≡ numbers (refused (saidRefusal r)) ⌝ }
+{
+    told(0, r.row, r.slot, r.expected, r.found, r.count)
 }
 
 pub fn of_made(answer: Made) -> [u64; 8]
     ensures { λ r. ⌜ r ≡ numbers (saidMade answer) ⌝ }
 {
     match answer {
-        Made::Fine => told(1, 0, 0, 0),
+        Made::Fine => told(1, 0, 0, 0, 0, 0),
         Made::Refused(refusal) => of_refusal(refusal),
     }
 }
@@ -57,7 +59,7 @@ pub fn of_opened(answer: Opened) -> [u64; 8]
     ensures { λ r. ⌜ r ≡ numbers (saidOpened answer) ⌝ }
 {
     match answer {
-        Opened::Fine => told(1, 0, 0, 0),
+        Opened::Fine => told(1, 0, 0, 0, 0, 0),
         Opened::Refused(refusal) => of_refusal(refusal),
     }
 }
@@ -66,7 +68,7 @@ pub fn of_verdict(answer: Verdict) -> [u64; 8]
     ensures { λ r. ⌜ r ≡ numbers (saidVerdict answer) ⌝ }
 {
     match answer {
-        Verdict::Fine => told(1, 0, 0, 0),
+        Verdict::Fine => told(1, 0, 0, 0, 0, 0),
         Verdict::Refused(refusal) => of_refusal(refusal),
     }
 }
@@ -75,8 +77,8 @@ pub fn of_found(answer: Found) -> [u64; 8]
     ensures { λ r. ⌜ r ≡ numbers (saidFound answer) ⌝ }
 {
     match answer {
-        Found::At(slot, n) => told(2, slot.0, 0, n),
-        Found::Absent(n) => told(3, 0, 0, n),
+        Found::At(slot, n) => told(2, 0, slot.0, 0, 0, n),
+        Found::Absent(n) => told(3, 0, 0, 0, 0, n),
         Found::Refused(refusal) => of_refusal(refusal),
     }
 }
@@ -85,8 +87,8 @@ pub fn of_inserted(answer: Inserted) -> [u64; 8]
     ensures { λ r. ⌜ r ≡ numbers (saidInserted answer) ⌝ }
 {
     match answer {
-        Inserted::New(slot, n) => told(4, slot.0, 0, n),
-        Inserted::Replaced(slot, n) => told(5, slot.0, 0, n),
+        Inserted::New(slot, n) => told(4, 0, slot.0, 0, 0, n),
+        Inserted::Replaced(slot, n) => told(5, 0, slot.0, 0, 0, n),
         Inserted::Refused(refusal) => of_refusal(refusal),
     }
 }
@@ -95,8 +97,8 @@ pub fn of_next(answer: Next) -> [u64; 8]
     ensures { λ r. ⌜ r ≡ numbers (saidNext answer) ⌝ }
 {
     match answer {
-        Next::At(slot, control) => told(2, slot.0, control, 0),
-        Next::Done => told(6, 0, 0, 0),
+        Next::At(slot, control) => told(2, 0, slot.0, 0, control, 0),
+        Next::Done => told(6, 0, 0, 0, 0, 0),
         Next::Refused(refusal) => of_refusal(refusal),
     }
 }
