@@ -2,13 +2,12 @@
 use borrow.Author.Needs.{needs}
 use borrow.Author.Tests.{eq-eqb, ne-eqb}
 use mathlib.Core.Path.{ap, _∙_}
-use lib.ListN.{length}
 use Rattle.exports.specs.Numbers.{numbers}
 use Rattle.exports.proofs.tally_check.Statement.{statement}
 use Rattle.exports.proofs.tally_check.Tie as tie
 
 returns : tie.Need-returns
-returns c = let e = ne-eqb (length (c .before .before .before .args .answer .now)) 8 (c .if1 .taken) in (rw e, rw e)
+returns c = let e = ne-eqb _ 8 (c .if1 .taken) in (rw e, rw e)
 
 check-book-requires : tie.Need-check-book-requires
 check-book-requires c κs = search needs
@@ -24,8 +23,11 @@ same-length c = search needs
 
 returns-2 : tie.Need-returns-2
 returns-2 c =
-    let e = eq-eqb (length (c .before .before .before .before .before .before .before .before .before .args .answer .now)) 8 (c .before .before .before .before .before .before .if1 .left) in
-    (rw e, rw e (c .before .before .store .ensures ∙ c .before .before .before .of-verdict .ensures ∙ ap numbers (c .before .before .before .before .check-book .ensures)))
+    let stored = c .before .before in
+    let said = stored .before in
+    let did = said .before in
+    let e = eq-eqb _ 8 (did .before .before .if1 .left) in
+    (rw e, rw e (stored .store .ensures ∙ said .of-verdict .ensures ∙ ap numbers (did .check-book .ensures)))
 
 pub tally-check-spec : {M : Type 1} → statement M
 tally-check-spec =

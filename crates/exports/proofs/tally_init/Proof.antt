@@ -2,13 +2,12 @@
 use borrow.Author.Needs.{needs}
 use borrow.Author.Tests.{eq-eqb, ne-eqb}
 use mathlib.Core.Path.{ap, _∙_}
-use lib.ListN.{length}
 use Rattle.exports.specs.Numbers.{numbers}
 use Rattle.exports.proofs.tally_init.Statement.{statement}
 use Rattle.exports.proofs.tally_init.Tie as tie
 
 returns : tie.Need-returns
-returns c = let e = ne-eqb (length (c .before .before .before .args .answer .now)) 8 (c .if1 .taken) in (rw e, (rw e, rw e))
+returns c = let e = ne-eqb _ 8 (c .if1 .taken) in (rw e, (rw e, rw e))
 
 init-in-place-requires : tie.Need-init-in-place-requires
 init-in-place-requires c κs = search needs
@@ -27,8 +26,11 @@ same-length-2 c = search needs
 
 returns-2 : tie.Need-returns-2
 returns-2 c =
-    let e = eq-eqb (length (c .before .before .before .before .before .before .before .before .before .before .before .before .args .answer .now)) 8 (c .before .before .before .before .before .before .before .before .before .if1 .left) in
-    (rw e, (rw e (c .before .before .store .ensures ∙ c .before .before .before .of-made .ensures ∙ ap numbers (c .before .before .before .before .before .before .init-in-place .ensures .0)), rw e (c .before .before .before .before .before .before .init-in-place .ensures .1)))
+    let stored = c .before .before in
+    let said = stored .before in
+    let did = said .before .before .before in
+    let e = eq-eqb _ 8 (did .before .before .before .if1 .left) in
+    (rw e, (rw e (stored .store .ensures ∙ said .of-made .ensures ∙ ap numbers (did .init-in-place .ensures .0)), rw e (did .init-in-place .ensures .1)))
 
 pub tally-init-spec : {M : Type 1} → statement M
 tally-init-spec =

@@ -2,13 +2,12 @@
 use borrow.Author.Needs.{needs}
 use borrow.Author.Tests.{eq-eqb, ne-eqb}
 use mathlib.Core.Path.{ap, _∙_}
-use lib.ListN.{length}
 use Rattle.exports.specs.Numbers.{numbers}
 use Rattle.exports.proofs.tally_insert.Statement.{statement}
 use Rattle.exports.proofs.tally_insert.Tie as tie
 
 returns : tie.Need-returns
-returns c = let e = ne-eqb (length (c .before .before .before .before .before .before .args .answer .now)) 8 (c .if1 .taken) in (rw e, (rw e, (rw e, rw e)))
+returns c = let e = ne-eqb _ 8 (c .if1 .taken) in (rw e, (rw e, (rw e, rw e)))
 
 insert-requires : tie.Need-insert-requires
 insert-requires c κs = search needs
@@ -30,8 +29,11 @@ same-length-3 c = search needs
 
 returns-2 : tie.Need-returns-2
 returns-2 c =
-    let e = eq-eqb (length (c .before .before .before .before .before .before .before .before .before .before .before .before .before .before .before .before .before .before .args .answer .now)) 8 (c .before .before .before .before .before .before .before .before .before .before .before .before .if1 .left) in
-    (rw e, (rw e (c .before .before .store .ensures ∙ c .before .before .before .of-inserted .ensures ∙ ap numbers (c .before .before .before .before .before .before .before .before .insert .ensures .0)), (rw e (c .before .before .before .before .before .before .before .before .insert .ensures .1 .0), rw e (c .before .before .before .before .before .before .before .before .insert .ensures .1 .1))))
+    let stored = c .before .before in
+    let said = stored .before in
+    let did = said .before .before .before .before .before in
+    let e = eq-eqb _ 8 (did .before .before .before .before .if1 .left) in
+    (rw e, (rw e (stored .store .ensures ∙ said .of-inserted .ensures ∙ ap numbers (did .insert .ensures .0)), (rw e (did .insert .ensures .1 .0), rw e (did .insert .ensures .1 .1))))
 
 pub tally-insert-spec : {M : Type 1} → statement M
 tally-insert-spec =

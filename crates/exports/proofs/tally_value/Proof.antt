@@ -2,12 +2,11 @@
 use borrow.Author.Needs.{needs}
 use borrow.Author.Tests.{eq-eqb, ne-eqb}
 use mathlib.Core.Path.{_∙_}
-use lib.ListN.{length}
 use Rattle.exports.proofs.tally_value.Statement.{statement}
 use Rattle.exports.proofs.tally_value.Tie as tie
 
 returns : tie.Need-returns
-returns c = let e = ne-eqb (length (c .before .before .before .before .args .answer .now)) 8 (c .if1 .taken) in (rw e, rw e)
+returns c = let e = ne-eqb _ 8 (c .if1 .taken) in (rw e, rw e)
 
 value-numbers-requires : tie.Need-value-numbers-requires
 value-numbers-requires c κs = search needs
@@ -20,8 +19,10 @@ same-length c = search needs
 
 returns-2 : tie.Need-returns-2
 returns-2 c =
-    let e = eq-eqb (length (c .before .before .before .before .before .before .before .before .before .args .answer .now)) 8 (c .before .before .before .before .before .if1 .left) in
-    (rw e, rw e (c .before .before .store .ensures ∙ c .before .before .before .value-numbers .ensures))
+    let stored = c .before .before in
+    let did = stored .before in
+    let e = eq-eqb _ 8 (did .before .before .if1 .left) in
+    (rw e, rw e (stored .store .ensures ∙ did .value-numbers .ensures))
 
 pub tally-value-spec : {M : Type 1} → statement M
 tally-value-spec =
