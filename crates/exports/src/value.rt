@@ -10,7 +10,7 @@ use memory_layout::kinds::value_offset;
 use raw_table::find::Found;
 use raw_table::find::find;
 
-// Nowhere where values have no bytes.
+// 0 where values have no bytes.
 fn offset_of(slot: Slot, k: usize, v: usize) -> usize
     requires { ⌜ Sizes k v × (slot .0 < 2 ^ 20) ⌝ }
     ensures { λ r. ⌜ r ≡ offsetOf k v (slot .0) ⌝ }
