@@ -1,0 +1,15 @@
+//! `loanbook`: the loan desk's book, from the command line.
+
+#![forbid(unsafe_code)]
+
+
+
+
+
+
+
+
+
+
+
+fn main() {}
