@@ -53,7 +53,9 @@ fn build(script: &Path) -> PathBuf {
 /// Ends the build with words that say what to do.
 fn give_up(what: &str) -> ! {
     eprintln!("the proved library could not be had: {what}");
-    eprintln!("Install the Rattle kit that the file rattle-kit names, so that its command rt is found, and build again;");
+    eprintln!(
+        "Install the Rattle kit that the file rattle-kit names, so that its command rt is found, and build again;"
+    );
     eprintln!("or set TALLY_LIBRARY to the path of a libexports.a that was built elsewhere.");
     exit(1)
 }

@@ -160,7 +160,10 @@ impl Refusal {
             Refusal::Version => "use the program that made it, or restore the book from a copy",
             Refusal::KeySize | Refusal::ValueSize => "ask for the book's own size, or restore the book from a copy",
             Refusal::SlotCount => "ask for 16, 32, 64 and so on; if a book says so, restore it from a copy",
-            Refusal::Lengths { .. } => "give every byte, zeros in front too; nothing was padded or cut",
+            Refusal::Lengths { lent: Lent::Key, .. } => {
+                "give every byte, zeros in front too; nothing was padded or cut"
+            }
+            Refusal::Lengths { lent: Lent::Value, .. } => "give one that fits; nothing was cut",
             Refusal::Full { .. } => "make a new book with more slots and bring the loans over",
             Refusal::Other { .. } => "look the row up in the documents of the library that was linked",
             _ => "restore the book from a copy",
