@@ -85,7 +85,7 @@ impl Asked {
         if self.number(option).is_some() {
             return misuse(form, &format!("{option} is given twice"));
         }
-        match attached.or(rest.next().map(|next| next.as_bytes())) {
+        match attached.or_else(|| rest.next().map(|next| next.as_bytes())) {
             Some(digits) => self.numbers.push((option, number(form, option, digits)?)),
             None => return misuse(form, &format!("{option} needs a number")),
         }

@@ -22,16 +22,17 @@ use std::process::ExitCode;
 const HELP: &str = "\
 loanbook keeps a loan book in a file: key the barcode, value the last loan.
 
-  loanbook new BOOK --key N --value N --slots N    make a new book
-  loanbook lend BOOK KEY VALUE                     write the last loan of a key
-  loanbook find BOOK KEY                           print the last loan of a key
-  loanbook list BOOK                               print every key and its last loan
-  loanbook import BOOK FILE.csv                    write a loan from each line, all or none
-  loanbook check BOOK                              test the whole book
-  loanbook show BOOK                               draw how full it is and how searches go
+  loanbook new BOOK --key N --value N --slots N   make a new book
+  loanbook lend BOOK KEY VALUE                    write the last loan of a key
+  loanbook find BOOK KEY                          print the last loan of a key
+  loanbook list BOOK                              print every key and its loan
+  loanbook import BOOK FILE.csv                   write a loan from each line
+  loanbook check BOOK                             test the whole book
+  loanbook show BOOK                              draw how full the book is
 
-Each of them has --help, and --json for scripts. Answers come on standard output, words of error on standard error.
-Status 0: done. 1: absent, or refused, and then nothing was changed. 2: asked wrongly, or a file is out of reach.
+Each has --help, and --json for scripts. Answers come on standard output, words
+of error on standard error. The status is 0 for done; 1 for absent, or refused,
+and then nothing was changed; 2 for asked wrongly, or a file out of reach.
 ";
 
 fn main() -> ExitCode {
@@ -96,4 +97,21 @@ fn command(name: &[u8]) -> Result<&'static Form, Failure> {
 fn say(out: &mut dyn Write, words: &str) -> Result<Ending, Failure> {
     out.write_all(words.as_bytes())?;
     Ok(Ending::Done)
+}
+
+#[cfg(test)]
+mod tests {
+    use super::*;
+
+    #[test]
+    fn every_help_fits_a_terminal_and_begins_with_its_usage() {
+        for form in commands::ALL {
+            assert!(form.help.starts_with(&format!("loanbook {} ", form.name)));
+            for option in form.words.iter().chain(form.switches).chain(form.numbers) {
+                assert!(form.help.contains(option), "{} {option}", form.name);
+            }
+        }
+        let all = commands::ALL.iter().map(|form| form.help).chain([HELP]);
+        assert!(all.flat_map(str::lines).all(|line| line.chars().count() <= 80));
+    }
 }

@@ -20,7 +20,8 @@ pub fn percent(part: usize, whole: usize) -> String {
 /// A line for each of the regions, all of one size, into which the slots are cut.
 pub fn regions(taken: &[usize], size: usize) -> String {
     let line = |(number, &taken): (usize, &usize)| {
-        let label = format!("{} to {}", thousands(number * size), thousands((number + 1) * size - 1));
+        let (first, last) = (thousands(number * size), thousands((number + 1) * size - 1));
+        let label = if size == 1 { first } else { format!("{first} to {last}") };
         format!("  {label:<17}{} {} of {}\n", bar(taken, size), thousands(taken), thousands(size))
     };
     taken.iter().enumerate().map(line).collect()

@@ -16,9 +16,10 @@ pub const FORM: Form = Form {
     help: "\
 loanbook check BOOK [--json]
 
-Tests the whole book: its header and length, that empty slots are empty, that each key has its control byte, that the
-mirrors agree, that no key stands twice and that a search comes to each. The first fault is told in words, with the
-slot and the number of its row in the rules, and the status is then 1.
+Tests the whole book: its header and length, that empty slots are empty, that
+each key has its control byte, that the mirrors agree, that no key stands twice
+and that a search comes to each. The first fault is told in words, with its slot
+and the number of its row in the rules, and the status is then 1.
 
   --json   the answer as JSON, with the fault's numbers
 ",

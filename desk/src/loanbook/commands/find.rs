@@ -17,11 +17,13 @@ pub const FORM: Form = Form {
     help: "\
 loanbook find BOOK KEY [--hex] [--json]
 
-Prints the value of KEY, without the spaces at its end. A key that is not in the book prints nothing, is said to be
-absent on standard error, and ends with status 1. KEY is taken byte for byte and must have exactly the book's length.
+Prints the value of KEY, without the spaces at its end. If KEY is not in the
+book, that is said on standard error, and the status is 1. KEY is taken byte
+for byte and must have exactly the book's length.
 
   --hex    KEY is hex digits, and the value is printed so, all of it
-  --json   the answer as JSON, with the slot and the number of groups that the search examined
+  --json   the answer as JSON, with the slot and the number of groups that the
+           search examined
   --       what follows is no option: for a KEY that begins with -
 ",
     run,

@@ -21,16 +21,21 @@ pub const FORM: Form = Form {
     help: "\
 loanbook import BOOK FILE.csv [--hex] [--header] [--repeats] [--json]
 
-Takes a loan from each line KEY,VALUE of the file; - is standard input. All lines are taken or none: the first one
-that is wrong is told with its number, and then the book stays as it was.
+Takes a loan from each line KEY,VALUE of the file; - is standard input. All
+lines are taken or none: the first one that is wrong is told with its number,
+and then the book stays as it was.
 
-Keys are taken byte for byte and must have exactly the book's length: a barcode that lost its zeros is refused, never
-padded. Values may be shorter. A field may stand in double quotes, and must if it has a comma, a line end or a quote
-in it; a quote in it is written twice. Lines end with LF or CRLF, empty ones are skipped, and so is a byte order mark.
+Keys are taken byte for byte and must have exactly the book's length: a barcode
+that lost its zeros is refused, never padded. Values may be shorter. A field may
+stand in double quotes, and must if it has a comma, a line end or a quote in it;
+a quote in it is written twice. Lines end with LF or CRLF. Empty lines are
+skipped, and so is a byte order mark. A damaged book is refused.
 
-  --hex       keys and values are hex digits; values then have exactly the book's length
+  --hex       keys and values are hex digits; values then have exactly the
+              book's length
   --header    the first line is a heading, and skipped
-  --repeats   a key may come more than once, and its last line counts; else that is refused
+  --repeats   a key may come in several lines, and the last of them counts;
+              without this the second is refused
   --json      the answer as JSON
 ",
     run,

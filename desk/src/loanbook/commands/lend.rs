@@ -17,14 +17,16 @@ pub const FORM: Form = Form {
     help: "\
 loanbook lend BOOK KEY VALUE [--hex] [--json]
 
-Writes VALUE as the last loan of KEY, and tells the one before it. A game that comes back is lent to its shelf:
-lend BOOK KEY home.
+Writes VALUE as the last loan of KEY, and tells the one before it. For a game
+that comes back, VALUE says so: loanbook lend BOOK KEY home.
 
-KEY is taken byte for byte and must have exactly the book's length; one that is short of its zeros is refused,
-never padded. VALUE may be shorter than the book's values: it is filled with spaces, and shown without those at
-its end. A damaged book is refused.
+KEY is taken byte for byte and must have exactly the book's length: one that is
+short of its zeros is refused, never padded. VALUE may be shorter than the
+book's values. It is filled with spaces, and spaces at the end are not shown.
+A damaged book is refused, whichever key is asked for.
 
-  --hex    KEY and VALUE are hex digits; VALUE then has exactly the book's length
+  --hex    KEY and VALUE are hex digits; VALUE then has exactly the book's
+           length
   --json   the answer as JSON
   --       what follows is no option: for a KEY or VALUE that begins with -
 ",

@@ -16,10 +16,11 @@ pub const FORM: Form = Form {
     help: "\
 loanbook list BOOK [--hex] [--json]
 
-Prints every key, a tab and its value, a line each, in the order of the slots. Values come without the spaces at their
-end. What is not plain text is printed as hex: and its digits.
+Prints every key, a tab and its value, a line each, in the order of the slots.
+Values come without the spaces at their end. What is not plain text is printed
+as hex: and its digits.
 
-  --hex    all keys and values as hex digits
+  --hex    all keys and values as hex digits, spaces too
   --json   a JSON list, an object a line
 ",
     run,

@@ -17,13 +17,19 @@ pub const FORM: Form = Form {
     help: "\
 loanbook new BOOK --key N --value N --slots N [--json]
 
-Makes the file BOOK, a new book without loans. A file that is there already is never overwritten.
+Makes the file BOOK, a new book without loans. A file that is there already is
+never overwritten.
 
-  --key N     bytes of a key, the barcode: 1 to 255. Every key of the book has exactly this length
-  --value N   bytes of a value, the last loan: 0 to 255. Shorter values are filled with spaces
-  --slots N   room for this many keys: a power of two from 16 to 65,536. It can't be changed later;
-              searches stay short while a fifth of the slots or more is free
+  --key N     bytes of a key, the barcode: 1 to 255. Every key of the book has
+              exactly this length
+  --value N   bytes of a value, the last loan: 0 to 255. Shorter values are
+              filled with spaces
+  --slots N   room for this many keys: a power of two from 16 to 65,536.
+              Searches are short while a fifth of the slots is free
   --json      the answer as JSON
+
+A book's sizes stay as they are. To bring all loans into a larger one:
+  loanbook list OLD --hex | tr '\\t' , | loanbook import NEW - --hex
 ",
     run,
 };

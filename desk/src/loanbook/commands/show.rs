@@ -17,8 +17,9 @@ pub const FORM: Form = Form {
     help: "\
 loanbook show BOOK [--json]
 
-Draws the book: its sizes, how many slots are taken, in all and in each sixteenth of the book, and how many groups of
-eight slots a search examines until it finds a key, for all keys in the book.
+Draws the book: its sizes, how many slots are taken, in all and in each
+sixteenth of the book, and how many groups of eight slots a search examines
+until it finds its key, for all keys of the book.
 
   --json   the same numbers as JSON
 ",
