@@ -87,7 +87,8 @@ impl Writer {
     pub fn change(path: &Path) -> Result<(Writer, Vec<u8>), FileError> {
         acceptable(&fs::metadata(path).map_err(while_reading)?)?;
         let writer = Writer::lock(fs::canonicalize(path).map_err(while_reading)?)?;
-        let book = OpenOptions::new().read(true).write(true).open(&writer.book).map_err(while_reading)?;
+        // Opened for writing only to ask whether we may: it is never written to.
+        let book = OpenOptions::new().read(true).write(true).open(&writer.book).map_err(while_taking)?;
         let metadata = book.metadata().map_err(while_reading)?;
         if metadata.permissions().readonly() {
             return Err(FileError::WriteProtected);
@@ -216,6 +217,13 @@ fn while_reading(error: io::Error) -> FileError {
     match error.kind() {
         io::ErrorKind::NotFound => FileError::Missing,
         _ => FileError::System("it can't be read", error),
+    }
+}
+
+fn while_taking(error: io::Error) -> FileError {
+    match error.kind() {
+        io::ErrorKind::NotFound => FileError::Missing,
+        _ => FileError::System("it can't be opened for a change", error),
     }
 }
 

@@ -263,7 +263,7 @@ fn show_counts_the_groups_of_each_search() {
         json.contains(r#""groups":[{"from":1,"to":1,"keys":8},{"from":2,"to":2,"keys":4}],"longest":2,"most":2"#),
         "{json}"
     );
-    assert!(folder.done("show b").contains("on average 1.33, at most 2;"));
+    assert!(folder.done("show b").contains("1.33 on average, 2 at most;"));
 }
 
 #[test]

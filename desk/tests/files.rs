@@ -208,6 +208,30 @@ fn many_writers_at_once_lose_no_loan() {
     assert_eq!(folder.names(), ["b"]);
 }
 
+#[test]
+fn a_draft_that_just_became_the_book_is_never_written_to() {
+    // Writers in one program, without pause: one often opens the draft that the one before it is about to rename.
+    let folder = Folder::new();
+    folder.write("b", 0u64.to_le_bytes());
+    let path = folder.path("b");
+    let done = std::sync::atomic::AtomicU64::new(0);
+    let until = Instant::now() + Duration::from_secs(3);
+    let write = || {
+        while Instant::now() < until {
+            let (writer, bytes) = match Writer::change(&path) {
+                Err(FileError::Busy) => continue,
+                taken => taken.expect("the file can be had"),
+            };
+            let number = u64::from_le_bytes(bytes.try_into().expect("the file is whole"));
+            writer.replace(&(number + 1).to_le_bytes()).expect("the draft is still there");
+            done.fetch_add(1, std::sync::atomic::Ordering::Relaxed);
+        }
+    };
+    std::thread::scope(|scope| (0..4).for_each(|_| drop(scope.spawn(write))));
+    assert_eq!(folder.read("b"), done.into_inner().to_le_bytes());
+    assert_eq!(folder.names(), ["b"]);
+}
+
 /// Kills a command again and again, each time a little later, and asserts that the book is the one before or after.
 /// `command` names the command of a round, and `change` does to a book in memory what it should do.
 fn kill(folder: &Folder, command: impl Fn(usize) -> Vec<String>, change: impl Fn(usize, &mut Book<Vec<u8>>)) {

@@ -1,6 +1,7 @@
 //! What the commands share: opening a book's file, and keys and values as they are given at the desk.
 
 use crate::failure::Failure;
+use crate::progress::Progress;
 use crate::text;
 use std::path::Path;
 use tallybramble::file::{self, Writer};
@@ -37,6 +38,8 @@ pub fn open(path: &Path) -> Result<Loans, Failure> {
 pub fn change(path: &Path) -> Result<(Writer, Loans), Failure> {
     let name = text::path(path);
     let (writer, bytes) = Writer::change(path).map_err(|error| Failure::file(&name, error))?;
+    let mut progress = Progress::new();
+    progress.say("checking the book ..");
     let book = Book::open_as_stated(bytes).map_err(|refusal| Failure::row(&name, refusal))?;
     book.check().map_err(|refusal| Failure::row(&name, refusal))?;
     Ok((writer, book))

@@ -6,6 +6,9 @@ use std::time::{Duration, Instant};
 /// How long a line stands before the next.
 const PACE: Duration = Duration::from_millis(100);
 
+/// The columns of a line, on any terminal.
+const COLUMNS: usize = 79;
+
 /// A line that is shown while a command works, and taken away when it ends.
 #[derive(Debug)]
 pub struct Progress {
@@ -21,7 +24,7 @@ impl Progress {
     /// Shows the words at once.
     pub fn say(&mut self, words: &str) {
         if self.terminal {
-            let _ = write!(io::stderr(), "\r{words:<79}\r{words}").and_then(|()| io::stderr().flush());
+            let _ = write!(io::stderr(), "\r{words:<COLUMNS$.COLUMNS$}\r").and_then(|()| io::stderr().flush());
         }
     }
 
@@ -37,7 +40,7 @@ impl Progress {
 impl Drop for Progress {
     fn drop(&mut self) {
         if self.terminal {
-            let _ = write!(io::stderr(), "\r{:79}\r", "").and_then(|()| io::stderr().flush());
+            let _ = write!(io::stderr(), "\r{:COLUMNS$}\r", "").and_then(|()| io::stderr().flush());
         }
     }
 }

@@ -93,10 +93,10 @@ fn draw(census: &Census, out: &mut dyn Write) -> std::io::Result<()> {
     write!(out, "{}", histogram(&census.searches, loans))?;
     let found = (loans - census.strays).max(1);
     let hundredth = census.groups * 100 / found;
-    write!(out, "  on average {}.{:02}, at most {}; ", hundredth / 100, hundredth % 100, thousands(census.longest))?;
-    writeln!(out, "no search of this book examines more than {}", thousands(slots / 8))?;
+    write!(out, "  {}.{:02} on average, {} at most; ", hundredth / 100, hundredth % 100, thousands(census.longest))?;
+    writeln!(out, "a search never examines more than {}", thousands(slots / 8))?;
     if census.strays > 0 {
-        writeln!(out, "  {} not found where it stands: run loanbook check", counted(census.strays, "key"))?;
+        writeln!(out, "  no search comes to {}: run loanbook check", counted(census.strays, "key"))?;
     }
     Ok(())
 }
