@@ -53,10 +53,10 @@ pub fn keep(path: &Path, writer: Writer, book: &Loans) -> Result<(), Failure> {
 /// A key as given: byte for byte, of exactly the book's length.
 pub fn key(book: &Loans, given: &[u8], hex: bool) -> Result<Vec<u8>, Unfit> {
     let key = bytes(given, hex)?;
-    match key.len() == book.key_size() {
-        true => Ok(key),
-        false => Err(unfit(given, Lent::Key, book.key_size(), key.len())),
+    if key.len() != book.key_size() {
+        return Err(unfit(given, Lent::Key, book.key_size(), key.len()));
     }
+    Ok(key)
 }
 
 /// A value as given: text is filled with spaces to the book's length, hex must have it.

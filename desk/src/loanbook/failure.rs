@@ -63,9 +63,10 @@ impl Failure {
 
     /// A file that is refused or out of reach.
     pub fn file(file: &str, error: FileError) -> Failure {
-        match error.is_refusal() {
-            true => Failure::refused(file, error.to_string()),
-            false => Failure::Misuse(format!("{file}: {error}")),
+        if error.is_refusal() {
+            Failure::refused(file, error.to_string())
+        } else {
+            Failure::Misuse(format!("{file}: {error}"))
         }
     }
 

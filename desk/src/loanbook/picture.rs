@@ -42,9 +42,10 @@ pub fn ranges(most: usize) -> Vec<(usize, usize)> {
 /// A line for each range of a histogram.
 pub fn histogram(rows: &[((usize, usize), usize)], whole: usize) -> String {
     let line = |&((from, to), keys): &((usize, usize), usize)| {
-        let label = match from == to {
-            true => counted(from, "group"),
-            false => format!("{} to {}", thousands(from), counted(to, "group")),
+        let label = if from == to {
+            counted(from, "group")
+        } else {
+            format!("{} to {}", thousands(from), counted(to, "group"))
         };
         format!("  {label:<23}{} {} ({})\n", bar(keys, whole), thousands(keys), percent(keys, whole))
     };

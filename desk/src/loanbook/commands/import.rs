@@ -128,9 +128,10 @@ fn heading(asked: &Asked, record: &Record) -> &'static str {
 /// The whole file, or standard input.
 fn contents(path: &OsStr) -> Result<Vec<u8>, Failure> {
     let mut text = Vec::new();
-    let read = match path == "-" {
-        true => io::stdin().lock().take(MOST + 1).read_to_end(&mut text),
-        false => File::open(path).and_then(|file| file.take(MOST + 1).read_to_end(&mut text)),
+    let read = if path == "-" {
+        io::stdin().lock().take(MOST + 1).read_to_end(&mut text)
+    } else {
+        File::open(path).and_then(|file| file.take(MOST + 1).read_to_end(&mut text))
     };
     match read {
         Err(error) => Err(Failure::Misuse(format!("{}: it can't be read: {error}", name(path)))),
@@ -142,8 +143,9 @@ fn contents(path: &OsStr) -> Result<Vec<u8>, Failure> {
 }
 
 fn name(path: &OsStr) -> String {
-    match path == "-" {
-        true => "standard input".to_string(),
-        false => text::path(path.as_ref()),
+    if path == "-" {
+        "standard input".to_string()
+    } else {
+        text::path(path.as_ref())
     }
 }
