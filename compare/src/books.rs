@@ -60,7 +60,7 @@ impl Keys {
 
 /// Chooses the last four bytes of the last chunk so that the key has this hash: the multiplication can be undone.
 fn aim(key: &mut [u8], hash: u32) {
-    let width = if key.len() % 8 == 0 { 8 } else { 4 };
+    let width = if key.len().is_multiple_of(8) { 8 } else { 4 };
     let last = key.len() - width;
     let before = before_last(&key[..last]);
     let product = hash.wrapping_mul(inverse(0x2722_0a95));

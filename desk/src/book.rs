@@ -1,6 +1,7 @@
 //! A book over any bytes, lent or owned: the proved calls with Rust's types.
 
-use crate::native::{self, Answer};
+use crate::answer::{self, Answer};
+use crate::native;
 use crate::refusal::{Lent, Refusal};
 
 const HEADER: usize = 32;
@@ -22,7 +23,8 @@ impl Sizes {
     /// How many bytes a book of these sizes has, if there may be one.
     pub fn total(&self) -> Result<usize, Refusal> {
         // No book has 0 bytes, so that of these bytes the length alone is refused where the sizes are right.
-        match Refusal::told(&native::init(&mut [], self.key, self.value, self.slots, 0, 0)) {
+        let asked = Answer::of(|told| native::init(&mut [], self.key, self.value, self.slots, 0, 0, told));
+        match Refusal::told(&asked) {
             Refusal::Length => Ok(HEADER + self.slots * (self.key + self.value) + self.slots + MIRRORS),
             refusal => Err(refusal),
         }
@@ -89,7 +91,7 @@ pub struct Book<B> {
 impl<B: AsRef<[u8]>> Book<B> {
     /// Opens a book of these key and value sizes: its header and its first ten slots are tested.
     pub fn open(bytes: B, key: usize, value: usize) -> Result<Self, Refusal> {
-        fine(native::open(bytes.as_ref(), key, value))?;
+        fine(Answer::of(|told| native::open(bytes.as_ref(), key, value, told)))?;
         Ok(Book { bytes, key, value })
     }
 
@@ -128,11 +130,11 @@ impl<B: AsRef<[u8]>> Book<B> {
     /// Searches a key.
     pub fn find(&self, key: &[u8]) -> Result<Found, Refusal> {
         self.fits(Lent::Key, key)?;
-        let answer = native::find(self.bytes(), self.key, self.value, key);
+        let answer = Answer::of(|told| native::find(self.bytes(), self.key, self.value, key, told));
         let groups = answer.count;
         match answer.outcome {
-            native::AT_SLOT => Ok(Found::At { slot: answer.slot, groups }),
-            native::ABSENT => Ok(Found::Absent { groups }),
+            answer::AT_SLOT => Ok(Found::At { slot: answer.slot, groups }),
+            answer::ABSENT => Ok(Found::Absent { groups }),
             _ => Err(Refusal::told(&answer)),
         }
     }
@@ -140,10 +142,10 @@ impl<B: AsRef<[u8]>> Book<B> {
     /// The value of a key, if the key is in the book.
     pub fn value(&self, key: &[u8]) -> Result<Option<&[u8]>, Refusal> {
         self.fits(Lent::Key, key)?;
-        let answer = native::value(self.bytes(), self.key, self.value, key);
+        let answer = Answer::of(|told| native::value(self.bytes(), self.key, self.value, key, told));
         match answer.outcome {
-            native::AT_SLOT => Ok(Some(part(self.bytes(), answer.offset, answer.length))),
-            native::ABSENT => Ok(None),
+            answer::AT_SLOT => Ok(Some(part(self.bytes(), answer.offset, answer.length))),
+            answer::ABSENT => Ok(None),
             _ => Err(Refusal::told(&answer)),
         }
     }
@@ -172,7 +174,7 @@ impl<B: AsRef<[u8]> + AsMut<[u8]>> Book<B> {
     /// Makes the bytes a new book without keys, whatever stood in them; they must be as many as [`Sizes::total`] says.
     /// The item count and the load factor in the header are 0: neither is kept up or obeyed.
     pub fn create(mut bytes: B, sizes: Sizes) -> Result<Self, Refusal> {
-        fine(native::init(bytes.as_mut(), sizes.key, sizes.value, sizes.slots, 0, 0))?;
+        fine(Answer::of(|told| native::init(bytes.as_mut(), sizes.key, sizes.value, sizes.slots, 0, 0, told)))?;
         Ok(Book { bytes, key: sizes.key, value: sizes.value })
     }
 
@@ -181,11 +183,12 @@ impl<B: AsRef<[u8]> + AsMut<[u8]>> Book<B> {
         self.fits(Lent::Key, key)?;
         self.fits(Lent::Value, value)?;
         let mut old = vec![0; self.value];
-        let answer = native::insert(self.bytes.as_mut(), self.key, self.value, key, value, &mut old);
+        let bytes = self.bytes.as_mut();
+        let answer = Answer::of(|told| native::insert(bytes, self.key, self.value, key, value, &mut old, told));
         let (slot, groups) = (answer.slot, answer.count);
         match answer.outcome {
-            native::NEW => Ok(Inserted::New { slot, groups }),
-            native::REPLACED => Ok(Inserted::Replaced { slot, groups, old }),
+            answer::NEW => Ok(Inserted::New { slot, groups }),
+            answer::REPLACED => Ok(Inserted::Replaced { slot, groups, old }),
             _ => Err(Refusal::told(&answer)),
         }
     }
@@ -204,8 +207,8 @@ impl<'b> Iterator for Entries<'b> {
     type Item = Entry<'b>;
 
     fn next(&mut self) -> Option<Entry<'b>> {
-        let answer = native::next(self.bytes, self.key, self.value, self.next);
-        if answer.outcome != native::AT_SLOT {
+        let answer = Answer::of(|told| native::next(self.bytes, self.key, self.value, self.next, told));
+        if answer.outcome != answer::AT_SLOT {
             return None;
         }
         self.next = answer.slot + 1;
@@ -220,7 +223,7 @@ impl<'b> Iterator for Entries<'b> {
 
 /// Tests a whole book of these sizes: what opening tests, and every slot, every mirror and every key's search.
 pub fn check(bytes: &[u8], key: usize, value: usize) -> Result<(), Refusal> {
-    fine(native::check(bytes, key, value))
+    fine(Answer::of(|told| native::check(bytes, key, value, told)))
 }
 
 /// The key and value sizes that a header states. Where no book can state them, 1 and 0: what is wrong with the bytes
@@ -233,7 +236,7 @@ pub fn stated_sizes(bytes: &[u8]) -> (usize, usize) {
 /// The answer of a call that has nothing more to tell.
 fn fine(answer: Answer) -> Result<(), Refusal> {
     match answer.outcome {
-        native::FINE => Ok(()),
+        answer::FINE => Ok(()),
         _ => Err(Refusal::told(&answer)),
     }
 }

@@ -32,10 +32,11 @@
 #[cfg(not(target_pointer_width = "64"))]
 compile_error!("the proved library is for 64-bit platforms");
 
+mod answer;
 mod book;
 pub mod file;
 #[allow(unsafe_code)]
-mod native;
+pub mod native;
 mod refusal;
 
 pub use book::{check, stated_sizes, Book, Entries, Entry, Found, Inserted, Sizes};

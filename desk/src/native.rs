@@ -1,27 +1,10 @@
-//! The proved calls, and the one place with `unsafe`. Each call is lent whole slices, and an answer with room for its
-//! eight numbers; it reads and writes within them whatever they hold.
+//! The proved calls as they stand, and the one place with `unsafe`. Each is lent whole slices and room for its eight
+//! numbers, and reads and writes within them whatever they hold. [`Book`](crate::Book) is the way to use them; the
+//! repository's comparison and measurements call them as they are here.
 
-/// The eight numbers that every call answers; 0 where a call has no use for one.
-#[derive(Debug, Default, Clone, Copy)]
-pub struct Answer {
-    pub outcome: u64,
-    pub row: u64,
-    pub slot: usize,
-    pub expected: u64,
-    pub found: u64,
-    pub count: usize,
-    pub offset: usize,
-    pub length: usize,
-}
-
-/// What `outcome` may be.
-pub const FINE: u64 = 1;
-pub const AT_SLOT: u64 = 2;
-pub const ABSENT: u64 = 3;
-pub const NEW: u64 = 4;
-pub const REPLACED: u64 = 5;
-
-const ROOM: usize = 8;
+/// What every call answers: outcome, row, slot, expected, found, count, offset, length; 0 where a call has no use for
+/// one. Outcomes are 0 refused, 1 fine, 2 at a slot, 3 absent, 4 new, 5 replaced, 6 done.
+pub type Numbers = [u64; 8];
 
 #[rustfmt::skip]
 extern "C" {
@@ -49,66 +32,52 @@ extern "C" {
 }
 
 // SAFETY, of each call below: every pointer comes from a slice that is borrowed for the whole call, beside that slice's
-// own length; what is written is borrowed mutably, so that nothing else is lent twice.
+// own length; what is written is borrowed mutably, so that nothing else is lent twice. With room for eight numbers no
+// call returns anything but 0.
 
-pub fn init(book: &mut [u8], k: usize, v: usize, slots: usize, count: u64, load: u16) -> Answer {
-    answered(|answer| unsafe {
-        let (numbers, room) = (answer.as_mut_ptr(), answer.len());
-        tally_init(book.as_mut_ptr(), book.len(), k, v, slots, count, load, numbers, room)
-    })
+/// Makes a book of these bytes.
+pub fn init(book: &mut [u8], k: usize, v: usize, slots: usize, count: u64, load: u16, answer: &mut Numbers) {
+    let (numbers, room) = (answer.as_mut_ptr(), answer.len());
+    unsafe { tally_init(book.as_mut_ptr(), book.len(), k, v, slots, count, load, numbers, room) };
 }
 
-pub fn open(book: &[u8], k: usize, v: usize) -> Answer {
-    answered(|answer| unsafe { tally_open(book.as_ptr(), book.len(), k, v, answer.as_mut_ptr(), answer.len()) })
+/// Opens a book.
+pub fn open(book: &[u8], k: usize, v: usize, answer: &mut Numbers) {
+    unsafe { tally_open(book.as_ptr(), book.len(), k, v, answer.as_mut_ptr(), answer.len()) };
 }
 
-pub fn check(book: &[u8], k: usize, v: usize) -> Answer {
-    answered(|answer| unsafe { tally_check(book.as_ptr(), book.len(), k, v, answer.as_mut_ptr(), answer.len()) })
+/// Tests a whole book.
+pub fn check(book: &[u8], k: usize, v: usize, answer: &mut Numbers) {
+    unsafe { tally_check(book.as_ptr(), book.len(), k, v, answer.as_mut_ptr(), answer.len()) };
 }
 
-pub fn find(book: &[u8], k: usize, v: usize, key: &[u8]) -> Answer {
-    answered(|answer| unsafe {
-        let (numbers, room) = (answer.as_mut_ptr(), answer.len());
-        tally_find(book.as_ptr(), book.len(), k, v, key.as_ptr(), key.len(), numbers, room)
-    })
+/// Searches a key.
+#[inline]
+pub fn find(book: &[u8], k: usize, v: usize, key: &[u8], answer: &mut Numbers) {
+    let (numbers, room) = (answer.as_mut_ptr(), answer.len());
+    unsafe { tally_find(book.as_ptr(), book.len(), k, v, key.as_ptr(), key.len(), numbers, room) };
 }
 
-pub fn value(book: &[u8], k: usize, v: usize, key: &[u8]) -> Answer {
-    answered(|answer| unsafe {
-        let (numbers, room) = (answer.as_mut_ptr(), answer.len());
-        tally_value(book.as_ptr(), book.len(), k, v, key.as_ptr(), key.len(), numbers, room)
-    })
+/// Searches a key and tells where its value stands.
+#[inline]
+pub fn value(book: &[u8], k: usize, v: usize, key: &[u8], answer: &mut Numbers) {
+    let (numbers, room) = (answer.as_mut_ptr(), answer.len());
+    unsafe { tally_value(book.as_ptr(), book.len(), k, v, key.as_ptr(), key.len(), numbers, room) };
 }
 
-pub fn insert(book: &mut [u8], k: usize, v: usize, key: &[u8], value: &[u8], old: &mut [u8]) -> Answer {
-    answered(|answer| unsafe {
-        let (book_at, book_len) = (book.as_mut_ptr(), book.len());
-        let (old_at, old_len) = (old.as_mut_ptr(), old.len());
-        let (numbers, room) = (answer.as_mut_ptr(), answer.len());
-        let (key_at, value_at) = (key.as_ptr(), value.as_ptr());
+/// Writes a key and its value; a value that is replaced goes to `old`.
+#[inline]
+pub fn insert(book: &mut [u8], k: usize, v: usize, key: &[u8], value: &[u8], old: &mut [u8], answer: &mut Numbers) {
+    let (book_at, book_len) = (book.as_mut_ptr(), book.len());
+    let (old_at, old_len) = (old.as_mut_ptr(), old.len());
+    let (numbers, room) = (answer.as_mut_ptr(), answer.len());
+    let (key_at, value_at) = (key.as_ptr(), value.as_ptr());
+    unsafe {
         tally_insert(book_at, book_len, k, v, key_at, key.len(), value_at, value.len(), old_at, old_len, numbers, room)
-    })
+    };
 }
 
-pub fn next(book: &[u8], k: usize, v: usize, from: usize) -> Answer {
-    answered(|answer| unsafe { tally_next(book.as_ptr(), book.len(), k, v, from, answer.as_mut_ptr(), answer.len()) })
-}
-
-/// Makes a call with room for its answer, and names the numbers. (Its return of 1 says that the room was wrong.)
-fn answered(call: impl FnOnce(&mut [u64; ROOM]) -> u64) -> Answer {
-    let mut numbers = [0; ROOM];
-    if call(&mut numbers) != 0 {
-        return Answer::default();
-    }
-    let [outcome, row, slot, expected, found, count, offset, length] = numbers;
-    Answer {
-        outcome,
-        row,
-        slot: slot as usize,
-        expected,
-        found,
-        count: count as usize,
-        offset: offset as usize,
-        length: length as usize,
-    }
+/// Tells the next occupied slot.
+pub fn next(book: &[u8], k: usize, v: usize, from: usize, answer: &mut Numbers) {
+    unsafe { tally_next(book.as_ptr(), book.len(), k, v, from, answer.as_mut_ptr(), answer.len()) };
 }

@@ -1,6 +1,6 @@
 //! Why a call was refused: the row of the rules that applied first, and a sentence in plain words.
 
-use crate::native::Answer;
+use crate::answer::Answer;
 use std::fmt;
 
 /// What was lent with the wrong length.

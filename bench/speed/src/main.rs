@@ -1,9 +1,12 @@
 //! Speed of the proved library beside the Rust: one process, the same books and keys, turn about.
-mod calls;
+#[path = "../../../compare/src/random.rs"]
+#[allow(dead_code)]
+mod random;
 mod workload;
 
 use std::hint::black_box;
 use std::time::Instant;
+use tallybramble::native;
 use workload::{Workload, VALUE};
 
 const ROUNDS: usize = 15;
@@ -34,7 +37,7 @@ fn finds<'a>(name: &'static str, work: &'a Workload, keys: Vec<Vec<u8>>) -> Task
         here: Box::new(move |book| {
             let mut answer = [0; 8];
             for key in &keys {
-                calls::find(book, k, VALUE, key, &mut answer);
+                native::find(book, k, VALUE, key, &mut answer);
                 black_box(answer[2]);
             }
         }),
@@ -56,7 +59,7 @@ fn inserts<'a>(name: &'static str, work: &'a Workload, book: &'a [u8]) -> Task<'
         here: Box::new(move |book| {
             let (mut old, mut answer) = ([0; VALUE], [0; 8]);
             for key in keys {
-                calls::insert(book, k, VALUE, key, &[2; VALUE], &mut old, &mut answer);
+                native::insert(book, k, VALUE, key, &[2; VALUE], &mut old, &mut answer);
                 black_box(answer[2]);
             }
         }),
@@ -74,7 +77,9 @@ fn check(work: &Workload) -> Task<'_> {
             black_box((table.slots)(book, slots).is_ok());
         }),
         here: Box::new(move |book| {
-            black_box(calls::check(book, k, VALUE, &mut [0; 8]));
+            let mut answer = [0; 8];
+            native::check(book, k, VALUE, &mut answer);
+            black_box(answer[1]);
         }),
     }
 }
@@ -119,7 +124,11 @@ fn measure(mut task: Task, head: &str) {
     let ratio = median(&mut ratios);
     println!(
         "| {head} | {} | {:.1} | {:.1} | {ratio:.2} | {:.2} to {:.2} |",
-        task.name, median(&mut rust), median(&mut here), ratios[1], ratios[ratios.len() - 2]
+        task.name,
+        median(&mut rust),
+        median(&mut here),
+        ratios[1],
+        ratios[ratios.len() - 2]
     );
 }
 
@@ -130,7 +139,11 @@ fn passes(words: &[String]) -> Option<()> {
     let mut task = tasks(&work).into_iter().find(|task| task.name == name)?;
     let mut book = task.book.to_vec();
     for _ in 0..n.parse().ok()? {
-        if side == "rust" { (task.rust)(&mut book) } else { (task.here)(&mut book) }
+        if side == "rust" {
+            (task.rust)(&mut book)
+        } else {
+            (task.here)(&mut book)
+        }
     }
     println!("{}", task.calls);
     Some(())
@@ -145,7 +158,9 @@ fn main() {
         }
         return;
     }
-    println!("| key | slots | full | call | the Rust, ns | here, ns | ratio | spread |\n|---|---|---|---|---|---|---|---|");
+    println!(
+        "| key | slots | full | call | the Rust, ns | here, ns | ratio | spread |\n|---|---|---|---|---|---|---|---|"
+    );
     for k in [8, 13, 32] {
         for slots in [1024, 65_536] {
             for eighths in [4, 7] {
