@@ -1,0 +1,71 @@
+use Prim.Native.Nat.{_-_, _≤_, _<_}
+use lib.ListN.{length}
+use mathlib.Core.Path.{_≡_}
+use borrow.Author.Needs.{needs}
+use Rattle.calls.proofs.serve.answer_lines.Statement.{statement}
+use Rattle.calls.proofs.serve.answer_lines.Tie as tie
+use Rattle.calls.proofs.serve.answer_lines.Reads as reads
+use Rattle.calls.proofs.serve.answer_lines.Lts as lts
+use Rattle.calls.proofs.line.take.Reads as take-reads
+use Rattle.calls.proofs.serve.answer_line.Reads as answer-line-reads
+
+abbrev Inv-loop : tie.InvT-loop
+Inv-loop input line₀ book₀ old₀ out₀ from₀ n₀ len₀ used₀ line book old out from n len used = (len ≤ length book) × (length line ≡ length line₀) × (length book ≡ length book₀) × (length old ≡ length old₀) × (length out ≡ length out₀)
+
+abbrev μ-loop : tie.MeasureT-loop
+μ-loop input line₀ book₀ old₀ out₀ from₀ n₀ len₀ used₀ line book old out from n len used = length input - from
+
+loop-holds : tie.Need-loop-holds Inv-loop μ-loop
+loop-holds c = search needs
+
+take-requires : tie.Need-take-requires Inv-loop μ-loop
+take-requires c κs = search needs
+
+answer-line-requires : tie.Need-answer-line-requires Inv-loop μ-loop
+answer-line-requires c κs = search needs
+
+loop-less : tie.Need-loop-less Inv-loop μ-loop
+loop-less c = search needs
+
+loop-again : tie.Need-loop-again Inv-loop μ-loop
+loop-again c = search needs
+
+loop-less-2 : tie.Need-loop-less-2 Inv-loop μ-loop
+loop-less-2 c = search needs
+
+loop-again-2 : tie.Need-loop-again-2 Inv-loop μ-loop
+loop-again-2 c = search needs
+
+same-length : tie.Need-same-length Inv-loop μ-loop
+same-length c = search needs
+
+same-length-2 : tie.Need-same-length-2 Inv-loop μ-loop
+same-length-2 c = search needs
+
+same-length-3 : tie.Need-same-length-3 Inv-loop μ-loop
+same-length-3 c = search needs
+
+same-length-4 : tie.Need-same-length-4 Inv-loop μ-loop
+same-length-4 c = search needs
+
+returns : tie.Need-returns Inv-loop μ-loop
+returns c = search needs
+
+pub answer-lines-spec : {M : Type 1} → statement M
+answer-lines-spec =
+    tie.close
+    (tie.spec
+    Inv-loop
+    μ-loop
+    loop-holds
+    take-requires
+    answer-line-requires
+    loop-less
+    loop-again
+    loop-less-2
+    loop-again-2
+    same-length
+    same-length-2
+    same-length-3
+    same-length-4
+    returns)

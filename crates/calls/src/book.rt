@@ -1,0 +1,90 @@
+// The book that is kept between the lines: so many bytes at the start of a buffer.
+ghost use Prim.Native.Nat.{_≤_};
+ghost use lib.ListN.{length};
+use memory_layout::parts::fill;
+use raw_table::insert::overwrite;
+
+// The book's length afterwards, and whether the call was one that can be made.
+pub(crate) struct Changed {
+    pub len: usize,
+    pub is_done: bool,
+}
+
+// The book ends with these bytes, which stand from `at` on.
+pub(crate) fn end_with(book: &mut [u8], len: usize, at: usize, content: &[u8]) -> Changed
+    requires { ⌜ (len ≤ length (now book)) × (at ≤ length (now book)) ⌝ }
+    ensures { λ r. ⌜ r .len ≤ length (now (book .entry)) ⌝ }
+{
+    if book.len() - at < content.len() {
+        return Changed {
+            len,
+            is_done: false,
+        };
+    }
+    overwrite(book, at, content);
+    Changed {
+        len: at + content.len(),
+        is_done: true,
+    }
+}
+
+pub(crate) fn fill_with(book: &mut [u8], len: usize, n: u64, byte: u64) -> Changed
+    requires { ⌜ len ≤ length (now book) ⌝ }
+    ensures { λ r. ⌜ r .len ≤ length (now (book .entry)) ⌝ }
+{
+    if (book.len() as u64) < n {
+        return Changed {
+            len,
+            is_done: false,
+        };
+    }
+    if 255 < byte {
+        return Changed {
+            len,
+            is_done: false,
+        };
+    }
+    let end = n as usize;
+    fill(&mut book[0..end], byte as u8);
+    Changed {
+        len: end,
+        is_done: true,
+    }
+}
+
+// Overwrites within the book.
+pub(crate) fn poke(book: &mut [u8], len: usize, at: u64, content: &[u8]) -> Changed
+    requires { ⌜ len ≤ length (now book) ⌝ }
+    ensures { λ r. ⌜ r .len ≤ length (now (book .entry)) ⌝ }
+{
+    if ((len as u64) < at) {
+        return Changed {
+            len,
+            is_done: false,
+        };
+    }
+    let from = at as usize;
+    if len - from < content.len() {
+        return Changed {
+            len,
+            is_done: false,
+        };
+    }
+    overwrite(book, from, content);
+    Changed { len, is_done: true }
+}
+
+fn fnv_step(state: u64, byte: u8) -> u64 {
+    fxhash::wrapping_mul(state ^ (byte as u64), 0x100_0000_01b3)
+}
+
+// FNV-1a, 64 bits.
+pub(crate) fn fnv(bytes: &[u8]) -> u64 {
+    let mut state: u64 = 0xcbf2_9ce4_8422_2325;
+    let mut i = 0;
+    while i < bytes.len() {
+        state = fnv_step(state, bytes[i]);
+        i += 1;
+    }
+    state
+}
