@@ -1,18 +1,11 @@
 // Answers a list of calls: one a line from standard input, one answer a line to standard output.
-mod book;
-mod call;
-mod fields;
-mod line;
 mod run;
-mod say;
 mod serve;
-mod table;
 
 fn main() {
     let mut input = [0u8; 65536];
     let mut line = [0u8; 131072];
     let mut book = [0u8; 524288];
-    let mut old = [0u8; 131072];
     let mut out = [0u8; 65536];
-    serve::serve(&mut input, &mut line, &mut book, &mut old, &mut out);
+    serve::serve(&mut input, &mut line, &mut book, &mut out);
 }

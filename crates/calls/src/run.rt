@@ -1,12 +1,12 @@
-// One line: the call that it is, run on the book that is kept.
+// One line: the call that it is, made on the book that is kept.
 ghost use Prim.Native.Nat.{_≤_, _<_};
 ghost use lib.ListN.{length};
-use crate::book;
-use crate::book::Changed;
-use crate::call::Call;
-use crate::call::read_call;
-use crate::say;
-use crate::table;
+use call_answers::book;
+use call_answers::book::Changed;
+use call_answers::say;
+use call_answers::table;
+use call_lines::call::Call;
+use call_lines::call::read_call;
 use raw_table::insert::overwrite;
 
 // The book's length, and the bytes held to be written.
@@ -30,22 +30,16 @@ fn part<'l, 'p>(line: &'l [u8], i: usize, parts: &'p [usize; 6]) -> &'l [u8]
     &line[0..0]
 }
 
-fn change(
-    call: Call,
-    line: &[u8],
-    numbers: &[u64; 5],
-    parts: &[usize; 6],
-    book: &mut [u8],
-    len: usize,
-) -> Changed
+// The calls that set bytes of the book; any other is none.
+fn change(call: Call, a: usize, b: usize, content: &[u8], book: &mut [u8], len: usize) -> Changed
     requires { ⌜ len ≤ length (now book) ⌝ }
     ensures { λ r. ⌜ r .len ≤ length (now (book .entry)) ⌝ }
 {
     match call {
-        Call::Book => book::end_with(book, len, 0, part(line, 0, parts)),
-        Call::More => book::end_with(book, len, len, part(line, 0, parts)),
-        Call::Fill => book::fill_with(book, len, numbers[0], numbers[1]),
-        Call::Poke => book::poke(book, len, numbers[0], part(line, 0, parts)),
+        Call::Book => book::end_with(book, len, 0, content),
+        Call::More => book::end_with(book, len, len, content),
+        Call::Fill => book::fill_with(book, len, a, b),
+        Call::Poke => book::poke(book, len, a, content),
         _ => Changed {
             len,
             is_done: false,
@@ -62,59 +56,48 @@ fn say_changed(changed: Changed, out: &mut [u8], used: usize) -> usize {
     }
 }
 
-fn run_insert(
+// The third buffer is a copy, for the key and the value are parts of the same line.
+fn insert(
     line: &[u8],
-    numbers: &[u64; 5],
+    k: usize,
+    v: usize,
     parts: &[usize; 6],
     book: &mut [u8],
-    old: &mut [u8],
     out: &mut [u8],
     used: usize,
 ) -> usize
-    requires { ⌜ length (now line) ≤ length (now old) ⌝ }
+    requires { ⌜ length (now line) ≤ 131072 ⌝ }
 {
-    let key = part(line, 0, parts);
-    let value = part(line, 1, parts);
     let third = part(line, 2, parts);
     let end = third.len();
-    overwrite(old, 0, third);
-    table::say_insert(
-        book,
-        numbers[0] as usize,
-        numbers[1] as usize,
-        key,
-        value,
-        &mut old[0..end],
-        out,
-        used,
-    )
+    let mut old = [0u8; 131072];
+    overwrite(&mut old, 0, third);
+    let key = part(line, 0, parts);
+    let value = part(line, 1, parts);
+    table::say_insert(book, k, v, key, value, &mut old[0..end], out, used)
 }
 
+// The calls that leave the book as it is.
 fn ask(
     call: Call,
-    line: &[u8],
-    numbers: &[u64; 5],
-    parts: &[usize; 6],
+    k: usize,
+    v: usize,
+    n: usize,
+    key: &[u8],
     book: &[u8],
     out: &mut [u8],
     used: usize,
 ) -> usize {
-    let k = numbers[0] as usize;
-    let v = numbers[1] as usize;
     match call {
         Call::Open => table::say_open(book, k, v, out, used),
         Call::Check => table::say_check(book, k, v, out, used),
-        Call::Find => table::say_find(book, k, v, part(line, 0, parts), out, used),
-        Call::Value => table::say_value(book, k, v, part(line, 0, parts), out, used),
-        Call::Next => table::say_next(book, k, v, numbers[2] as usize, out, used),
-        Call::Walk => table::say_walk(book, k, v, numbers[2], out, used),
-        Call::Hash => table::say_hash(part(line, 0, parts), out, used),
+        Call::Find => table::say_find(book, k, v, key, out, used),
+        Call::Value => table::say_value(book, k, v, key, out, used),
+        Call::Next => table::say_next(book, k, v, n, out, used),
+        Call::Walk => table::say_walk(book, k, v, n, out, used),
+        Call::Hash => table::say_hash(key, out, used),
         Call::Bytes => say::hex(out, used, book),
-        _ => {
-            let mut digits = [0u8; 16];
-            let n = io::hex(book::fnv(book), 16, &mut digits);
-            say::text(out, used, &digits[..n])
-        }
+        _ => book::say_sum(book, out, used),
     }
 }
 
@@ -125,16 +108,19 @@ fn run(
     parts: &[usize; 6],
     book: &mut [u8],
     len: usize,
-    old: &mut [u8],
     out: &mut [u8],
     used: usize,
 ) -> State
-    requires { ⌜ (len ≤ length (now book)) × (length (now line) ≤ length (now old)) ⌝ }
+    requires { ⌜ (len ≤ length (now book)) × (length (now line) ≤ 131072) ⌝ }
     ensures { λ r. ⌜ r .len ≤ length (now (book .entry)) ⌝ }
 {
+    let a = numbers[0] as usize;
+    let b = numbers[1] as usize;
+    let c = numbers[2] as usize;
+    let first = part(line, 0, parts);
     match call {
         Call::Book | Call::More | Call::Fill | Call::Poke | Call::Bad => {
-            let changed = change(call, line, numbers, parts, book, len);
+            let changed = change(call, a, b, first, book, len);
             State {
                 len: changed.len,
                 used: say_changed(changed, out, used),
@@ -142,15 +128,24 @@ fn run(
         }
         Call::Init => State {
             len,
-            used: table::say_init(&mut book[0..len], numbers, out, used),
+            used: table::say_init(
+                &mut book[0..len],
+                a,
+                b,
+                c,
+                numbers[3],
+                numbers[4],
+                out,
+                used,
+            ),
         },
         Call::Insert => State {
             len,
-            used: run_insert(line, numbers, parts, &mut book[0..len], old, out, used),
+            used: insert(line, a, b, parts, &mut book[0..len], out, used),
         },
         _ => State {
             len,
-            used: ask(call, line, numbers, parts, &book[0..len], out, used),
+            used: ask(call, a, b, c, first, &book[0..len], out, used),
         },
     }
 }
@@ -159,15 +154,14 @@ pub(crate) fn answer(
     line: &mut [u8],
     book: &mut [u8],
     len: usize,
-    old: &mut [u8],
     out: &mut [u8],
     used: usize,
 ) -> State
-    requires { ⌜ (len ≤ length (now book)) × (length (now line) ≤ length (now old)) ⌝ }
+    requires { ⌜ (len ≤ length (now book)) × (length (now line) ≤ 131072) ⌝ }
     ensures { λ r. ⌜ r .len ≤ length (now (book .entry)) ⌝ }
 {
     let mut numbers = [0u64; 5];
     let mut parts = [0usize; 6];
     let call = read_call(line, &mut numbers, &mut parts);
-    run(call, line, &numbers, &parts, book, len, old, out, used)
+    run(call, line, &numbers, &parts, book, len, out, used)
 }

@@ -1,11 +1,10 @@
 // The whole list: reads, puts lines together and answers each.
 ghost use Prim.Native.Nat.{_≤_};
 ghost use lib.ListN.{length};
-use crate::line::LINE_LIMIT;
-use crate::line::take;
 use crate::run::State;
 use crate::run::answer;
-use crate::say;
+use call_answers::say;
+use call_lines::line::take;
 use libc::STDIN_FILENO;
 
 // How much is held of the line that is being read, of the book, and of what is to be written.
@@ -22,18 +21,17 @@ fn answer_line(
     held: usize,
     book: &mut [u8],
     len: usize,
-    old: &mut [u8],
     out: &mut [u8],
     used: usize,
 ) -> State
-    requires { ⌜ (len ≤ length (now book)) × (length (now line) ≤ length (now old)) ⌝ }
+    requires { ⌜ (len ≤ length (now book)) × (length (now line) ≤ 131072) ⌝ }
     ensures { λ r. ⌜ r .len ≤ length (now (book .entry)) ⌝ }
 {
     if line.len() < held {
         let used = say::text(out, used, b"bad\n");
         return State { len, used };
     }
-    let state = answer(&mut line[0..held], book, len, old, out, used);
+    let state = answer(&mut line[0..held], book, len, out, used);
     State {
         len: state.len,
         used: say::byte(out, state.used, b'\n'),
@@ -41,15 +39,8 @@ fn answer_line(
 }
 
 // Answers every line that ends in this input.
-fn answer_lines(
-    input: &[u8],
-    line: &mut [u8],
-    book: &mut [u8],
-    old: &mut [u8],
-    out: &mut [u8],
-    held: Held,
-) -> Held
-    requires { ⌜ (held .book ≤ length (now book)) × (length (now line) ≤ length (now old)) ⌝ }
+fn answer_lines(input: &[u8], line: &mut [u8], book: &mut [u8], out: &mut [u8], held: Held) -> Held
+    requires { ⌜ (held .book ≤ length (now book)) × (length (now line) ≤ 131072) ⌝ }
     ensures { λ r. ⌜ r .book ≤ length (now (book .entry)) ⌝ }
 {
     let mut from = 0;
@@ -61,7 +52,7 @@ fn answer_lines(
         from = taken.next;
         n = taken.held;
         if taken.is_whole {
-            let state = answer_line(line, n, book, len, old, out, used);
+            let state = answer_line(line, n, book, len, out, used);
             n = 0;
             len = state.len;
             used = state.used;
@@ -76,8 +67,8 @@ fn answer_lines(
 }
 
 // At the end of the input a line may be left.
-fn finish(line: &mut [u8], book: &mut [u8], old: &mut [u8], out: &mut [u8], held: Held) -> Held
-    requires { ⌜ (held .book ≤ length (now book)) × (length (now line) ≤ length (now old)) ⌝ }
+fn finish(line: &mut [u8], book: &mut [u8], out: &mut [u8], held: Held) -> Held
+    requires { ⌜ (held .book ≤ length (now book)) × (length (now line) ≤ 131072) ⌝ }
     ensures { λ r. ⌜ r .book ≤ length (now (book .entry)) ⌝ }
 {
     if held.line == 0 {
@@ -88,7 +79,7 @@ fn finish(line: &mut [u8], book: &mut [u8], old: &mut [u8], out: &mut [u8], held
             is_open: false,
         };
     }
-    let state = answer_line(line, held.line, book, held.book, old, out, held.out);
+    let state = answer_line(line, held.line, book, held.book, out, held.out);
     Held {
         line: 0,
         book: state.len,
@@ -98,22 +89,15 @@ fn finish(line: &mut [u8], book: &mut [u8], old: &mut [u8], out: &mut [u8], held
 }
 
 // One read, and the answers to its lines.
-fn turn(
-    input: &mut [u8],
-    line: &mut [u8],
-    book: &mut [u8],
-    old: &mut [u8],
-    out: &mut [u8],
-    held: Held,
-) -> Held
-    requires { ⌜ (held .book ≤ length (now book)) × (length (now line) ≤ length (now old)) ⌝ }
+fn turn(input: &mut [u8], line: &mut [u8], book: &mut [u8], out: &mut [u8], held: Held) -> Held
+    requires { ⌜ (held .book ≤ length (now book)) × (length (now line) ≤ 131072) ⌝ }
     ensures { λ r. ⌜ r .book ≤ length (now (book .entry)) ⌝ }
 {
     let n = io::count(libc::read(STDIN_FILENO, input), input);
     if n == 0 {
-        return finish(line, book, old, out, held);
+        return finish(line, book, out, held);
     }
-    let held = answer_lines(&input[..n], line, book, old, out, held);
+    let held = answer_lines(&input[..n], line, book, out, held);
     let used = say::flush(out, held.out);
     Held {
         line: held.line,
@@ -124,14 +108,8 @@ fn turn(
 }
 
 // Nothing says that the input ends, and a proved loop has to: so the turns are counted down, from a number that no run uses up.
-pub(crate) fn serve(
-    input: &mut [u8],
-    line: &mut [u8],
-    book: &mut [u8],
-    old: &mut [u8],
-    out: &mut [u8],
-)
-    requires { ⌜ length (now line) ≤ length (now old) ⌝ }
+pub(crate) fn serve(input: &mut [u8], line: &mut [u8], book: &mut [u8], out: &mut [u8])
+    requires { ⌜ length (now line) ≤ 131072 ⌝ }
 {
     let mut held = Held {
         line: 0,
@@ -141,7 +119,7 @@ pub(crate) fn serve(
     };
     let mut turns = u64::MAX;
     while turns > 0 && held.is_open {
-        held = turn(input, line, book, old, out, held);
+        held = turn(input, line, book, out, held);
         turns -= 1;
     }
 }

@@ -6,14 +6,14 @@ use Rattle.calls.proofs.serve.answer_lines.Statement.{statement}
 use Rattle.calls.proofs.serve.answer_lines.Tie as tie
 use Rattle.calls.proofs.serve.answer_lines.Reads as reads
 use Rattle.calls.proofs.serve.answer_lines.Lts as lts
-use Rattle.calls.proofs.line.take.Reads as take-reads
+use Rattle.call_lines.proofs.line.take.Reads as take-reads
 use Rattle.calls.proofs.serve.answer_line.Reads as answer-line-reads
 
 abbrev Inv-loop : tie.InvT-loop
-Inv-loop input line₀ book₀ old₀ out₀ from₀ n₀ len₀ used₀ line book old out from n len used = (len ≤ length book) × (length line ≡ length line₀) × (length book ≡ length book₀) × (length old ≡ length old₀) × (length out ≡ length out₀)
+Inv-loop input line₀ book₀ out₀ from₀ n₀ len₀ used₀ line book out from n len used = (len ≤ length book) × (length line ≡ length line₀) × (length book ≡ length book₀) × (length out ≡ length out₀)
 
 abbrev μ-loop : tie.MeasureT-loop
-μ-loop input line₀ book₀ old₀ out₀ from₀ n₀ len₀ used₀ line book old out from n len used = length input - from
+μ-loop input line₀ book₀ out₀ from₀ n₀ len₀ used₀ line book out from n len used = length input - from
 
 loop-holds : tie.Need-loop-holds Inv-loop μ-loop
 loop-holds c = search needs
@@ -45,9 +45,6 @@ same-length-2 c = search needs
 same-length-3 : tie.Need-same-length-3 Inv-loop μ-loop
 same-length-3 c = search needs
 
-same-length-4 : tie.Need-same-length-4 Inv-loop μ-loop
-same-length-4 c = search needs
-
 returns : tie.Need-returns Inv-loop μ-loop
 returns c = search needs
 
@@ -67,5 +64,4 @@ answer-lines-spec =
     same-length
     same-length-2
     same-length-3
-    same-length-4
     returns)

@@ -9,10 +9,10 @@ use Rattle.calls.proofs.serve.serve.Lts as lts
 use Rattle.calls.proofs.serve.turn.Reads as turn-reads
 
 abbrev Inv-loop : tie.InvT-loop
-Inv-loop input₀ line₀ book₀ old₀ out₀ held₀ turns₀ input line book old out held turns = (held .book ≤ length book) × (length input ≡ length input₀) × (length line ≡ length line₀) × (length book ≡ length book₀) × (length old ≡ length old₀) × (length out ≡ length out₀)
+Inv-loop input₀ line₀ book₀ out₀ held₀ turns₀ input line book out held turns = (held .book ≤ length book) × (length input ≡ length input₀) × (length line ≡ length line₀) × (length book ≡ length book₀) × (length out ≡ length out₀)
 
 abbrev μ-loop : tie.MeasureT-loop
-μ-loop input₀ line₀ book₀ old₀ out₀ held₀ turns₀ input line book old out held turns = turns
+μ-loop input₀ line₀ book₀ out₀ held₀ turns₀ input line book out held turns = turns
 
 loop-holds : tie.Need-loop-holds Inv-loop μ-loop
 loop-holds c = search needs
@@ -41,11 +41,11 @@ same-length-3 c = search needs
 same-length-4 : tie.Need-same-length-4 Inv-loop μ-loop
 same-length-4 c = search needs
 
-same-length-5 : tie.Need-same-length-5 Inv-loop μ-loop
-same-length-5 c = search needs
-
 returns : tie.Need-returns Inv-loop μ-loop
 returns c = search needs
+
+same-length-5 : tie.Need-same-length-5 Inv-loop μ-loop
+same-length-5 c = search needs
 
 same-length-6 : tie.Need-same-length-6 Inv-loop μ-loop
 same-length-6 c = search needs
@@ -55,12 +55,6 @@ same-length-7 c = search needs
 
 same-length-8 : tie.Need-same-length-8 Inv-loop μ-loop
 same-length-8 c = search needs
-
-same-length-9 : tie.Need-same-length-9 Inv-loop μ-loop
-same-length-9 c = search needs
-
-same-length-10 : tie.Need-same-length-10 Inv-loop μ-loop
-same-length-10 c = search needs
 
 returns-2 : tie.Need-returns-2 Inv-loop μ-loop
 returns-2 c = search needs
@@ -80,11 +74,9 @@ serve-spec =
     same-length-2
     same-length-3
     same-length-4
-    same-length-5
     returns
+    same-length-5
     same-length-6
     same-length-7
     same-length-8
-    same-length-9
-    same-length-10
     returns-2)
