@@ -1,4 +1,3 @@
-// What a list of calls answers: the words, the answers of the library's calls in them, and the bytes of the book that is kept.
-pub mod book;
+// What a list of calls answers: the words, and the answers of the library's calls in them.
 pub mod say;
 pub mod table;

@@ -1,12 +1,12 @@
-// What is written: it is held in a buffer, and goes to standard output when that is full and before each read.
+// What is written. It is held in a buffer, which goes to standard output when it is full and when the list's owner says so.
 ghost use Prim.Native.Nat.{_<_};
 use libc::STDOUT_FILENO;
 use memory_layout::refusal::Refusal;
 
-// The number of bytes held, once a write has failed: from then on nothing is written.
+// How many bytes are held once a write has failed: from then on nothing is written.
 const CLOSED: usize = usize::MAX;
 
-// Writes what is held.
+// Writes what is held; each function here says how many bytes are held then.
 pub fn flush(out: &[u8], used: usize) -> usize {
     if out.len() < used {
         return CLOSED;

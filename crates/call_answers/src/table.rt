@@ -111,7 +111,7 @@ pub fn say_next(
     }
 }
 
-// One step of a walk: where the walk stands then, and whether it goes on.
+// Where a walk stands after a step, and whether it goes on.
 struct Pace {
     next: usize,
     used: usize,
@@ -162,7 +162,7 @@ fn say_steps(book: &[u8], k: usize, v: usize, steps: usize, out: &mut [u8], used
     say::field(out, put, at)
 }
 
-// A book that refuses a step refuses the first.
+// A book that refuses any step refuses the first.
 pub fn say_walk(
     book: &[u8],
     k: usize,

@@ -1,6 +1,5 @@
 // Which call a line is: a word, then its numbers, then its byte strings.
 ghost use Prim.Native.Nat.{_≤_, _<_};
-ghost use lib.ListN.{length};
 use crate::fields::Number;
 use crate::fields::field_at;
 use crate::fields::number_of;
@@ -23,6 +22,7 @@ pub enum Call {
     Hash,
     Bytes,
     Sum,
+    // Any other line.
     Bad,
 }
 
@@ -35,7 +35,7 @@ enum Place {
     Bad,
 }
 
-// The calls on the bytes of the book as such.
+// The words of the calls on bytes as such.
 fn word_of_bytes(word: &[u8]) -> Call {
     if equals(word, b"book") {
         return Call::Book;
@@ -61,6 +61,7 @@ fn word_of_bytes(word: &[u8]) -> Call {
     Call::Bad
 }
 
+// The words of the calls on a table, and then the others.
 fn word_of_table(word: &[u8]) -> Call {
     if equals(word, b"init") {
         return Call::Init;

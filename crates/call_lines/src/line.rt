@@ -2,8 +2,8 @@
 ghost use Prim.Native.Nat.{_≤_, _<_};
 ghost use lib.ListN.{length};
 
-// The most bytes of a line, its end not counted.
-const LINE_LIMIT: usize = 131_072;
+// What is held of a line that is longer than its buffer.
+const TOO_LONG: usize = usize::MAX;
 
 // How far the input was taken, how many bytes of a line are held then, and whether its end was met.
 pub struct Taken {
@@ -12,13 +12,13 @@ pub struct Taken {
     pub is_whole: bool,
 }
 
-// One byte more of a line that has `held`. A line over the limit is one that holds a byte more than it may.
+// One byte more of a line that has `held`.
 fn keep(line: &mut [u8], held: usize, byte: u8) -> usize {
     if held < line.len() {
         line[held] = byte;
         held + 1
     } else {
-        LINE_LIMIT + 1
+        TOO_LONG
     }
 }
 

@@ -1,5 +1,4 @@
 // Answers a list of calls: one a line from standard input, one answer a line to standard output.
-mod run;
 mod serve;
 
 fn main() {

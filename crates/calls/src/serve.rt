@@ -1,10 +1,10 @@
 // The whole list: reads, puts lines together and answers each.
 ghost use Prim.Native.Nat.{_≤_};
 ghost use lib.ListN.{length};
-use crate::run::State;
-use crate::run::answer;
 use call_answers::say;
 use call_lines::line::take;
+use kept_book::run::State;
+use kept_book::run::answer;
 use libc::STDIN_FILENO;
 
 // How much is held of the line that is being read, of the book, and of what is to be written.

@@ -1,13 +1,10 @@
-use Prim.Native.Nat.{_-_, _≤_, _<_}
-use lib.ListN.{length}
-use mathlib.Core.Path.{_≡_}
+-- Each turn writes two digits.
 use borrow.Author.Needs.{needs}
+use mathlib.Core.Path.{_≡_}
+use Prim.Native.Nat.{_-_, _≤_}
+use lib.ListN.{length}
 use Rattle.call_answers.proofs.say.hex.Statement.{statement}
 use Rattle.call_answers.proofs.say.hex.Tie as tie
-use Rattle.call_answers.proofs.say.hex.Reads as reads
-use Rattle.call_answers.proofs.say.hex.Lts as lts
-use Rattle.call_answers.proofs.say.byte.Reads as byte-reads
-use Rattle.call_answers.proofs.say.byte_in_hex.Reads as byte-in-hex-reads
 
 abbrev Inv-loop : tie.InvT-loop
 Inv-loop out₀ used bytes at₀ i₀ out at i = (i ≤ length bytes) × (length out ≡ length out₀)

@@ -1,12 +1,10 @@
-use Prim.Native.Nat.{_-_, _≤_, _<_}
-use lib.ListN.{length}
-use mathlib.Core.Path.{_≡_}
+-- Each turn writes one byte.
 use borrow.Author.Needs.{needs}
+use mathlib.Core.Path.{_≡_}
+use Prim.Native.Nat.{_-_, _≤_}
+use lib.ListN.{length}
 use Rattle.call_answers.proofs.say.text.Statement.{statement}
 use Rattle.call_answers.proofs.say.text.Tie as tie
-use Rattle.call_answers.proofs.say.text.Reads as reads
-use Rattle.call_answers.proofs.say.text.Lts as lts
-use Rattle.call_answers.proofs.say.byte.Reads as byte-reads
 
 abbrev Inv-loop : tie.InvT-loop
 Inv-loop out₀ used text at₀ i₀ out at i = (i ≤ length text) × (length out ≡ length out₀)

@@ -1,14 +1,9 @@
-use Prim.Native.Nat.{_-_, _≤_, _<_}
-use lib.ListN.{length}
-use mathlib.Core.Path.{_≡_}
+-- Each turn is one of the steps that are left.
 use borrow.Author.Needs.{needs}
+use mathlib.Core.Path.{_≡_}
+use lib.ListN.{length}
 use Rattle.call_answers.proofs.table.say_steps.Statement.{statement}
 use Rattle.call_answers.proofs.table.say_steps.Tie as tie
-use Rattle.call_answers.proofs.table.say_steps.Reads as reads
-use Rattle.call_answers.proofs.table.say_steps.Lts as lts
-use Rattle.call_answers.proofs.say.field.Reads as field-reads
-use Rattle.call_answers.proofs.say.text.Reads as text-reads
-use Rattle.call_answers.proofs.table.say_step.Reads as say-step-reads
 
 abbrev Inv-loop : tie.InvT-loop
 Inv-loop book k v steps out₀ used at₀ put₀ left₀ t12 out at put left = length out ≡ length out₀

@@ -1,12 +1,8 @@
-use Prim.Native.Nat.{_-_, _≤_, _<_}
-use lib.ListN.{length}
-use mathlib.Core.Path.{_≡_}
+-- Each turn reads one number.
 use borrow.Author.Needs.{needs}
+use Prim.Native.Nat.{_-_, _≤_}
 use Rattle.call_lines.proofs.call.read_numbers.Statement.{statement}
 use Rattle.call_lines.proofs.call.read_numbers.Tie as tie
-use Rattle.call_lines.proofs.call.read_numbers.Reads as reads
-use Rattle.call_lines.proofs.call.read_numbers.Lts as lts
-use Rattle.call_lines.proofs.call.read_number.Reads as read-number-reads
 
 abbrev Inv-loop : tie.InvT-loop
 Inv-loop line at count numbers₀ place₀ i₀ numbers place i = i ≤ count

@@ -1,12 +1,10 @@
-use Prim.Native.Nat.{_-_, _≤_, _<_}
-use lib.ListN.{length}
-use mathlib.Core.Path.{_≡_}
+-- Each turn reads one byte string.
 use borrow.Author.Needs.{needs}
+use mathlib.Core.Path.{_≡_}
+use Prim.Native.Nat.{_-_, _≤_}
+use lib.ListN.{length}
 use Rattle.call_lines.proofs.call.read_parts.Statement.{statement}
 use Rattle.call_lines.proofs.call.read_parts.Tie as tie
-use Rattle.call_lines.proofs.call.read_parts.Reads as reads
-use Rattle.call_lines.proofs.call.read_parts.Lts as lts
-use Rattle.call_lines.proofs.call.read_part.Reads as read-part-reads
 
 abbrev Inv-loop : tie.InvT-loop
 Inv-loop line₀ at count parts₀ place₀ i₀ line parts place i = (i ≤ count) × (length line ≡ length line₀)

@@ -1,13 +1,9 @@
-use Prim.Native.Nat.{_-_, _≤_, _<_}
-use lib.ListN.{length}
-use mathlib.Core.Path.{_≡_}
+-- Each turn takes one digit.
 use borrow.Author.Needs.{needs}
+use Prim.Native.Nat.{_-_, _≤_}
+use lib.ListN.{length}
 use Rattle.call_lines.proofs.fields.number_of.Statement.{statement}
 use Rattle.call_lines.proofs.fields.number_of.Tie as tie
-use Rattle.call_lines.proofs.fields.number_of.Reads as reads
-use Rattle.call_lines.proofs.fields.number_of.Lts as lts
-use Rattle.call_lines.proofs.fields.starts_badly.Reads as starts-badly-reads
-use Rattle.call_lines.proofs.fields.with_digit.Reads as with-digit-reads
 
 abbrev Inv-loop : tie.InvT-loop
 Inv-loop field n₀ i₀ n i = i ≤ length field

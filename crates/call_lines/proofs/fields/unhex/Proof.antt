@@ -1,13 +1,10 @@
-use Prim.Native.Nat.{_+_, _-_, _≤_, _<_}
-use lib.ListN.{length}
-use mathlib.Core.Path.{_≡_}
+-- Each turn writes one byte where its pair of digits, or an earlier one, was read.
 use borrow.Author.Needs.{needs}
+use mathlib.Core.Path.{_≡_}
+use Prim.Native.Nat.{_+_, _-_, _≤_}
+use lib.ListN.{length}
 use Rattle.call_lines.proofs.fields.unhex.Statement.{statement}
 use Rattle.call_lines.proofs.fields.unhex.Tie as tie
-use Rattle.call_lines.proofs.fields.unhex.Reads as reads
-use Rattle.call_lines.proofs.fields.unhex.Lts as lts
-use Rattle.call_lines.proofs.fields.is_dash.Reads as is-dash-reads
-use Rattle.call_lines.proofs.fields.pair.Reads as pair-reads
 
 abbrev Inv-loop : tie.InvT-loop
 Inv-loop field₀ n i₀ field i = (i ≤ n) × (n + n ≤ length field) × (length field ≡ length field₀)

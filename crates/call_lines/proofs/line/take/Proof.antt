@@ -1,12 +1,10 @@
-use Prim.Native.Nat.{_-_, _≤_, _<_}
-use lib.ListN.{length}
-use mathlib.Core.Path.{_≡_}
+-- Each turn takes one byte, and nothing but the place and the line's length is kept track of.
 use borrow.Author.Needs.{needs}
+use mathlib.Core.Path.{_≡_}
+use Prim.Native.Nat.{_-_, _≤_}
+use lib.ListN.{length}
 use Rattle.call_lines.proofs.line.take.Statement.{statement}
 use Rattle.call_lines.proofs.line.take.Tie as tie
-use Rattle.call_lines.proofs.line.take.Reads as reads
-use Rattle.call_lines.proofs.line.take.Lts as lts
-use Rattle.call_lines.proofs.line.keep.Reads as keep-reads
 
 abbrev Inv-loop : tie.InvT-loop
 Inv-loop input from line₀ held i₀ n₀ line i n = (from ≤ i) × (length line ≡ length line₀)

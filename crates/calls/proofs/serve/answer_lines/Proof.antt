@@ -1,13 +1,10 @@
-use Prim.Native.Nat.{_-_, _≤_, _<_}
-use lib.ListN.{length}
-use mathlib.Core.Path.{_≡_}
+-- Each turn takes at least one byte of the input, and the book stays within its buffer.
 use borrow.Author.Needs.{needs}
+use mathlib.Core.Path.{_≡_}
+use Prim.Native.Nat.{_-_, _≤_}
+use lib.ListN.{length}
 use Rattle.calls.proofs.serve.answer_lines.Statement.{statement}
 use Rattle.calls.proofs.serve.answer_lines.Tie as tie
-use Rattle.calls.proofs.serve.answer_lines.Reads as reads
-use Rattle.calls.proofs.serve.answer_lines.Lts as lts
-use Rattle.call_lines.proofs.line.take.Reads as take-reads
-use Rattle.calls.proofs.serve.answer_line.Reads as answer-line-reads
 
 abbrev Inv-loop : tie.InvT-loop
 Inv-loop input line₀ book₀ out₀ from₀ n₀ len₀ used₀ line book out from n len used = (len ≤ length book) × (length line ≡ length line₀) × (length book ≡ length book₀) × (length out ≡ length out₀)

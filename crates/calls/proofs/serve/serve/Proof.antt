@@ -1,12 +1,10 @@
-use Prim.Native.Nat.{_-_, _≤_, _<_}
-use lib.ListN.{length}
-use mathlib.Core.Path.{_≡_}
+-- The turns are counted down, and the book stays within its buffer.
 use borrow.Author.Needs.{needs}
+use mathlib.Core.Path.{_≡_}
+use Prim.Native.Nat.{_≤_}
+use lib.ListN.{length}
 use Rattle.calls.proofs.serve.serve.Statement.{statement}
 use Rattle.calls.proofs.serve.serve.Tie as tie
-use Rattle.calls.proofs.serve.serve.Reads as reads
-use Rattle.calls.proofs.serve.serve.Lts as lts
-use Rattle.calls.proofs.serve.turn.Reads as turn-reads
 
 abbrev Inv-loop : tie.InvT-loop
 Inv-loop input₀ line₀ book₀ out₀ held₀ turns₀ input line book out held turns = (held .book ≤ length book) × (length input ≡ length input₀) × (length line ≡ length line₀) × (length book ≡ length book₀) × (length out ≡ length out₀)

@@ -1,18 +1,18 @@
 // The book that is kept between the lines: so many bytes at the start of a buffer.
 ghost use Prim.Native.Nat.{_≤_};
 ghost use lib.ListN.{length};
-use crate::say;
+use call_answers::say;
 use memory_layout::parts::fill;
 use raw_table::insert::overwrite;
 
 // The book's length afterwards, and whether the call was one that can be made.
-pub struct Changed {
+pub(crate) struct Changed {
     pub len: usize,
     pub is_done: bool,
 }
 
 // The book ends with these bytes, which stand from `at` on.
-pub fn end_with(book: &mut [u8], len: usize, at: usize, content: &[u8]) -> Changed
+pub(crate) fn end_with(book: &mut [u8], len: usize, at: usize, content: &[u8]) -> Changed
     requires { ⌜ (len ≤ length (now book)) × (at ≤ length (now book)) ⌝ }
     ensures { λ r. ⌜ r .len ≤ length (now (book .entry)) ⌝ }
 {
@@ -29,7 +29,7 @@ pub fn end_with(book: &mut [u8], len: usize, at: usize, content: &[u8]) -> Chang
     }
 }
 
-pub fn fill_with(book: &mut [u8], len: usize, n: usize, byte: usize) -> Changed
+pub(crate) fn fill_with(book: &mut [u8], len: usize, n: usize, byte: usize) -> Changed
     requires { ⌜ len ≤ length (now book) ⌝ }
     ensures { λ r. ⌜ r .len ≤ length (now (book .entry)) ⌝ }
 {
@@ -53,7 +53,7 @@ pub fn fill_with(book: &mut [u8], len: usize, n: usize, byte: usize) -> Changed
 }
 
 // Overwrites within the book.
-pub fn poke(book: &mut [u8], len: usize, at: usize, content: &[u8]) -> Changed
+pub(crate) fn poke(book: &mut [u8], len: usize, at: usize, content: &[u8]) -> Changed
     requires { ⌜ len ≤ length (now book) ⌝ }
     ensures { λ r. ⌜ r .len ≤ length (now (book .entry)) ⌝ }
 {
@@ -88,7 +88,7 @@ fn fnv(bytes: &[u8]) -> u64 {
     state
 }
 
-pub fn say_sum(book: &[u8], out: &mut [u8], used: usize) -> usize {
+pub(crate) fn say_sum(book: &[u8], out: &mut [u8], used: usize) -> usize {
     let mut digits = [0u8; 16];
     let n = io::hex(fnv(book), 16, &mut digits);
     say::text(out, used, &digits[..n])

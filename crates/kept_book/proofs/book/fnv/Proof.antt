@@ -1,12 +1,9 @@
-use Prim.Native.Nat.{_-_, _≤_, _<_}
-use lib.ListN.{length}
-use mathlib.Core.Path.{_≡_}
+-- Each turn takes one byte.
 use borrow.Author.Needs.{needs}
-use Rattle.call_answers.proofs.book.fnv.Statement.{statement}
-use Rattle.call_answers.proofs.book.fnv.Tie as tie
-use Rattle.call_answers.proofs.book.fnv.Reads as reads
-use Rattle.call_answers.proofs.book.fnv.Lts as lts
-use Rattle.call_answers.proofs.book.fnv_step.Reads as fnv-step-reads
+use Prim.Native.Nat.{_-_, _≤_}
+use lib.ListN.{length}
+use Rattle.kept_book.proofs.book.fnv.Statement.{statement}
+use Rattle.kept_book.proofs.book.fnv.Tie as tie
 
 abbrev Inv-loop : tie.InvT-loop
 Inv-loop bytes state₀ i₀ state i = i ≤ length bytes

@@ -1,16 +1,16 @@
 // One line: the call that it is, made on the book that is kept.
 ghost use Prim.Native.Nat.{_≤_, _<_};
 ghost use lib.ListN.{length};
-use call_answers::book;
-use call_answers::book::Changed;
+use crate::book;
+use crate::book::Changed;
 use call_answers::say;
 use call_answers::table;
 use call_lines::call::Call;
 use call_lines::call::read_call;
 use raw_table::insert::overwrite;
 
-// The book's length, and the bytes held to be written.
-pub(crate) struct State {
+// The book's length, and how many bytes are held to be written.
+pub struct State {
     pub len: usize,
     pub used: usize,
 }
@@ -150,13 +150,8 @@ fn run(
     }
 }
 
-pub(crate) fn answer(
-    line: &mut [u8],
-    book: &mut [u8],
-    len: usize,
-    out: &mut [u8],
-    used: usize,
-) -> State
+// The answer to a line, which is read in its own place. The line's end is not written.
+pub fn answer(line: &mut [u8], book: &mut [u8], len: usize, out: &mut [u8], used: usize) -> State
     requires { ⌜ (len ≤ length (now book)) × (length (now line) ≤ 131072) ⌝ }
     ensures { λ r. ⌜ r .len ≤ length (now (book .entry)) ⌝ }
 {
