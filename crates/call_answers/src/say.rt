@@ -1,4 +1,4 @@
-// What is written. It is held in a buffer, which goes to standard output when it is full and when the list's owner says so.
+// What is written. It is held in a buffer, which goes to standard output when it is full and by `flush`.
 ghost use Prim.Native.Nat.{_<_};
 use libc::STDOUT_FILENO;
 use memory_layout::refusal::Refusal;

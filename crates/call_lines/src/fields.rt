@@ -1,4 +1,5 @@
 // The fields of a line. Each value has one spelling: a number no leading zero, bytes lower-case hex, or a dash for none.
+ghost use mathlib.Core.Path.{_≡_};
 ghost use Prim.Native.Nat.{_≤_};
 ghost use lib.ListN.{length};
 
@@ -20,23 +21,25 @@ pub(crate) struct Decoded {
     pub is_bytes: bool,
 }
 
+fn no_field() -> Field
+    ensures { λ r. ⌜ (r .start ≡ 0) × (r .end ≡ 0) ⌝ }
+{
+    Field {
+        start: 0,
+        end: 0,
+        is_there: false,
+    }
+}
+
 // The field behind the space at a place.
 pub(crate) fn field_at(line: &[u8], at: usize) -> Field
     ensures { λ r. ⌜ (r .start ≤ r .end) × (r .end ≤ length (now (line .entry))) ⌝ }
 {
     if line.len() <= at {
-        return Field {
-            start: 0,
-            end: 0,
-            is_there: false,
-        };
+        return no_field();
     }
     if line[at] != b' ' {
-        return Field {
-            start: 0,
-            end: 0,
-            is_there: false,
-        };
+        return no_field();
     }
     let start = at + 1;
     let end = bytes::scan::find(line, start, line.len(), b' ');
@@ -125,6 +128,15 @@ fn is_dash(field: &[u8]) -> bool {
     field[0] == b'-'
 }
 
+fn no_bytes() -> Decoded
+    ensures { λ r. ⌜ r .len ≡ 0 ⌝ }
+{
+    Decoded {
+        len: 0,
+        is_bytes: false,
+    }
+}
+
 // Puts the bytes that a field stands for over its start.
 pub(crate) fn unhex(field: &mut [u8]) -> Decoded
     ensures { λ r. ⌜ r .len ≤ length (now (field .entry)) ⌝ }
@@ -137,19 +149,13 @@ pub(crate) fn unhex(field: &mut [u8]) -> Decoded
     }
     let n = field.len() / 2;
     if (n == 0) | (field.len() % 2 != 0) {
-        return Decoded {
-            len: 0,
-            is_bytes: false,
-        };
+        return no_bytes();
     }
     let mut i = 0;
     while i < n {
         let byte = pair(field[2 * i], field[2 * i + 1]);
         if 255 < byte {
-            return Decoded {
-                len: 0,
-                is_bytes: false,
-            };
+            return no_bytes();
         }
         field[i] = byte as u8;
         i += 1;

@@ -1,4 +1,5 @@
 // The book that is kept between the lines: so many bytes at the start of a buffer.
+ghost use mathlib.Core.Path.{_≡_};
 ghost use Prim.Native.Nat.{_≤_};
 ghost use lib.ListN.{length};
 use call_answers::say;
@@ -11,16 +12,23 @@ pub(crate) struct Changed {
     pub is_done: bool,
 }
 
+// What a call that can't be made leaves.
+pub(crate) fn unchanged(len: usize) -> Changed
+    ensures { λ r. ⌜ r .len ≡ len ⌝ }
+{
+    Changed {
+        len,
+        is_done: false,
+    }
+}
+
 // The book ends with these bytes, which stand from `at` on.
 pub(crate) fn end_with(book: &mut [u8], len: usize, at: usize, content: &[u8]) -> Changed
     requires { ⌜ (len ≤ length (now book)) × (at ≤ length (now book)) ⌝ }
     ensures { λ r. ⌜ r .len ≤ length (now (book .entry)) ⌝ }
 {
     if book.len() - at < content.len() {
-        return Changed {
-            len,
-            is_done: false,
-        };
+        return unchanged(len);
     }
     overwrite(book, at, content);
     Changed {
@@ -34,16 +42,10 @@ pub(crate) fn fill_with(book: &mut [u8], len: usize, n: usize, byte: usize) -> C
     ensures { λ r. ⌜ r .len ≤ length (now (book .entry)) ⌝ }
 {
     if book.len() < n {
-        return Changed {
-            len,
-            is_done: false,
-        };
+        return unchanged(len);
     }
     if 255 < byte {
-        return Changed {
-            len,
-            is_done: false,
-        };
+        return unchanged(len);
     }
     fill(&mut book[0..n], byte as u8);
     Changed {
@@ -58,16 +60,10 @@ pub(crate) fn poke(book: &mut [u8], len: usize, at: usize, content: &[u8]) -> Ch
     ensures { λ r. ⌜ r .len ≤ length (now (book .entry)) ⌝ }
 {
     if len < at {
-        return Changed {
-            len,
-            is_done: false,
-        };
+        return unchanged(len);
     }
     if len - at < content.len() {
-        return Changed {
-            len,
-            is_done: false,
-        };
+        return unchanged(len);
     }
     overwrite(book, at, content);
     Changed { len, is_done: true }

@@ -40,10 +40,7 @@ fn change(call: Call, a: usize, b: usize, content: &[u8], book: &mut [u8], len: 
         Call::More => book::end_with(book, len, len, content),
         Call::Fill => book::fill_with(book, len, a, b),
         Call::Poke => book::poke(book, len, a, content),
-        _ => Changed {
-            len,
-            is_done: false,
-        },
+        _ => book::unchanged(len),
     }
 }
 

@@ -21,6 +21,9 @@ same-length c = search needs
 returns : tie.Need-returns Inv-loop μ-loop
 returns c = search needs
 
+no-bytes-requires : tie.Need-no-bytes-requires Inv-loop μ-loop
+no-bytes-requires c κs = search needs
+
 same-length-2 : tie.Need-same-length-2 Inv-loop μ-loop
 same-length-2 c = search needs
 
@@ -47,6 +50,9 @@ slice-read-pair-2 c = search needs
 
 pair-requires : tie.Need-pair-requires Inv-loop μ-loop
 pair-requires c κs = search needs
+
+no-bytes-requires-2 : tie.Need-no-bytes-requires-2 Inv-loop μ-loop
+no-bytes-requires-2 c κs = search needs
 
 same-length-3 : tie.Need-same-length-3 Inv-loop μ-loop
 same-length-3 c = search needs
@@ -84,6 +90,7 @@ unhex-spec =
     is-dash-requires
     same-length
     returns
+    no-bytes-requires
     same-length-2
     returns-2
     loop-holds
@@ -93,6 +100,7 @@ unhex-spec =
     add-pair
     slice-read-pair-2
     pair-requires
+    no-bytes-requires-2
     same-length-3
     returns-3
     cast-field
