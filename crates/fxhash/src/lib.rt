@@ -77,8 +77,15 @@ pub fn read_u64(bytes: &[u8], at: usize) -> u64
     wide64(read_u32(bytes, at)) + wide64(read_u32(bytes, at + 4)) * 0x1_0000_0000
 }
 
+// The hash that a key's last chunk leaves.
+fn low(h: u64) -> u32
+    ensures { λ r. ⌜ r ≡ h % 2 ^ 32 ⌝ }
+{
+    (h % 0x1_0000_0000) as u32
+}
+
 // 8 bytes while 8 remain, then 4, 2 and 1 where that many remain.
-pub fn hash(bytes: &[u8]) -> u32
+fn hash_any(bytes: &[u8]) -> u32
     ensures { λ r. ⌜ r ≡ hashOf (now (bytes .entry)) ⌝ }
 {
     let mut h: u64 = 0;
@@ -98,7 +105,49 @@ pub fn hash(bytes: &[u8]) -> u32
     if bytes.len() - i >= 1 {
         h = add_to_hash(h, wide64(wide32(wide16(bytes[i]))));
     }
-    (h % 0x1_0000_0000) as u32
+    low(h)
+}
+
+// The chunks of the lengths that most keys have, without a loop or a test.
+fn hash_8(bytes: &[u8]) -> u32
+    requires { ⌜ length (now bytes) ≡ 8 ⌝ }
+    ensures { λ r. ⌜ r ≡ hashOf (now (bytes .entry)) ⌝ }
+{
+    low(add_to_hash(0, read_u64(bytes, 0)))
+}
+
+fn hash_13(bytes: &[u8]) -> u32
+    requires { ⌜ length (now bytes) ≡ 13 ⌝ }
+    ensures { λ r. ⌜ r ≡ hashOf (now (bytes .entry)) ⌝ }
+{
+    let first = add_to_hash(0, read_u64(bytes, 0));
+    let next = add_to_hash(first, wide64(read_u32(bytes, 8)));
+    low(add_to_hash(next, wide64(wide32(wide16(bytes[12])))))
+}
+
+fn hash_32(bytes: &[u8]) -> u32
+    requires { ⌜ length (now bytes) ≡ 32 ⌝ }
+    ensures { λ r. ⌜ r ≡ hashOf (now (bytes .entry)) ⌝ }
+{
+    let first = add_to_hash(0, read_u64(bytes, 0));
+    let second = add_to_hash(first, read_u64(bytes, 8));
+    let third = add_to_hash(second, read_u64(bytes, 16));
+    low(add_to_hash(third, read_u64(bytes, 24)))
+}
+
+pub fn hash(bytes: &[u8]) -> u32
+    ensures { λ r. ⌜ r ≡ hashOf (now (bytes .entry)) ⌝ }
+{
+    if bytes.len() == 8 {
+        return hash_8(bytes);
+    }
+    if bytes.len() == 13 {
+        return hash_13(bytes);
+    }
+    if bytes.len() == 32 {
+        return hash_32(bytes);
+    }
+    hash_any(bytes)
 }
 
 // What is taken mod the slot count for the start of a search.

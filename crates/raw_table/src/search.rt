@@ -25,13 +25,11 @@ pub enum Spot {
     Full(usize),
 }
 
-// Whether two keys have the same bytes.
-pub fn equals(a: &[u8], b: &[u8]) -> bool
+// Whether two keys have the same bytes, byte by byte: for keys that are shorter than a word.
+fn same_few(a: &[u8], b: &[u8]) -> bool
+    requires { ⌜ length (now a) ≡ length (now b) ⌝ }
     ensures { λ r. ⌜ r ≡ sameBytes (now (a .entry)) (now (b .entry)) ⌝ }
 {
-    if a.len() != b.len() {
-        return false;
-    }
     let mut i = 0;
     while i < a.len() {
         let ours = a[i];
@@ -42,6 +40,27 @@ pub fn equals(a: &[u8], b: &[u8]) -> bool
         i += 1;
     }
     true
+}
+
+// Whether two keys have the same bytes. The last word overlaps what was compared before it, so that no bytes are left over.
+pub fn equals(a: &[u8], b: &[u8]) -> bool
+    ensures { λ r. ⌜ r ≡ sameBytes (now (a .entry)) (now (b .entry)) ⌝ }
+{
+    if a.len() != b.len() {
+        return false;
+    }
+    if a.len() < 8 {
+        return same_few(a, b);
+    }
+    let last = a.len() - 8;
+    let mut i = 0;
+    while i < last {
+        if fxhash::read_u64(a, i) != fxhash::read_u64(b, i) {
+            return false;
+        }
+        i += 8;
+    }
+    fxhash::read_u64(a, last) == fxhash::read_u64(b, last)
 }
 
 // Whether a slot holds the key.

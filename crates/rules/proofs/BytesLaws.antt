@@ -12,7 +12,7 @@ use native.Mathlib.Decide.{ℕ-discrete}
 use borrow.Author.Tests.{eqb-true, eq-eqb, ne-eqb}
 use lib.Dec.{lit<, eqb}
 use lib.ListN.{length, getD, take, drop, length-take, length-drop}
-use lib.Seq.{getD-take, getD-drop, take-add, drop-drop, drop-cons, length-take-le, ext-getD}
+use lib.Seq.{getD-take, getD-drop, take-add, take-all, take-take, drop-drop, drop-cons, length-take-le, ext-getD}
 use Rattle.rules.specs.Bytes.{byteAt, part, le, leBytes, sameBytes}
 use Rattle.rules.proofs.TestLaws.{both, and-false}
 
@@ -123,6 +123,35 @@ pub same-step : (xs ys : List ℕ) (i : ℕ) → i < length xs → i < length ys
     → sameBytes (drop i xs) (drop i ys) ≡ eqb (byteAt xs i) (byteAt ys i) && sameBytes (drop (i + 1) xs) (drop (i + 1) ys)
 unfolding sameBytes
 same-step xs ys i h l = rw (drop-cons xs i 0 h, drop-cons ys i 0 l, add-one)
+
+-- ---- equality by words of w bytes
+
+module _ (w i : ℕ) (xs ys : List ℕ) where
+  -- words that differ make lists that differ
+  pub word-differs : (le (part w i xs) ≡ le (part w i ys) → ⊥) → sameBytes xs ys ≡ false
+  word-differs n = go (sameBytes xs ys) refl
+    where
+      go : (q : Bool) → sameBytes xs ys ≡ q → q ≡ false
+      go true e = absurd (n (ap (λ (s : List ℕ). le (part w i s)) (same-is xs ys e)))
+      go false e = refl
+
+  module _ (l : length xs ≡ length ys) (f : i + w ≤ length xs) (hx : Bytes xs) (hy : Bytes ys) where
+    -- lists that agree before a word and have one number there agree as far as the word goes
+    pub word-same : take i xs ≡ take i ys → le (part w i xs) ≡ le (part w i ys) → take (i + w) xs ≡ take (i + w) ys
+    word-same t e =
+        let n = length-part w i xs f ∙ sym (length-part w i ys (omega arith)) in
+        let s = same-number (part w i xs) (part w i ys) n (bytes-part w i xs hx) (bytes-part w i ys hy) in
+        let p = same-is (part w i xs) (part w i ys) (sym s ∙ eq-eqb _ _ e) in
+        take-add i w xs ∙ ap₂ (λ (a b : List ℕ). a ++ b) t p ∙ sym (take-add i w ys)
+
+    -- the word at the end decides, where the lists agree up to its start or further
+    pub word-last : (j : ℕ) → i ≤ j → take j xs ≡ take j ys → length xs ≤ i + w → eqb (le (part w i xs)) (le (part w i ys)) ≡ sameBytes xs ys
+    word-last j h t u =
+        let before : take i xs ≡ take i ys = sym (take-take i j xs h) ∙ ap (take i) t ∙ take-take i j ys h in
+        dite (ℕ-discrete (le (part w i xs)) (le (part w i ys)))
+        (λ e. let same : xs ≡ ys = sym (take-all (i + w) xs u) ∙ word-same before e ∙ take-all (i + w) ys (omega arith) in
+        eq-eqb _ _ e ∙ sym (same-self ys) ∙ ap (λ (s : List ℕ). sameBytes s ys) (sym same))
+        (λ d. ne-eqb _ _ d ∙ sym (word-differs d))
 
 -- ---- the bytes of a number
 

@@ -10,8 +10,8 @@ use lib.Dec.{eqb}
 use lib.ListN.{length, drop, drop-of-length-le}
 use Rattle.rules.specs.Bytes.{byteAt, sameBytes}
 use Rattle.rules.proofs.BytesLaws.{same-lengths, same-step, same-self}
-use Rattle.raw_table.proofs.search.equals.Statement.{statement}
-use Rattle.raw_table.proofs.search.equals.Tie as tie
+use Rattle.raw_table.proofs.search.same_few.Statement.{statement}
+use Rattle.raw_table.proofs.search.same_few.Tie as tie
 
 abbrev Inv-loop : tie.InvT-loop
 Inv-loop a b i₀ i = (i ≤ length a) × (length a ≡ length b) × (sameBytes a b ≡ sameBytes (drop i a) (drop i b))
@@ -62,8 +62,8 @@ returns-3 c =
     let m : length (a .b .now) ≤ c .before .loop .i = omega arith in
     sym (v .2 ∙ ap₂ sameBytes (drop-of-length-le (a .a .now) l) (drop-of-length-le (a .b .now) m) ∙ same-self [])
 
-pub equals-spec : {M : Type 1} → statement M
-equals-spec =
+pub same-few-spec : {M : Type 1} → statement M
+same-few-spec =
     tie.close
     (tie.spec
     Inv-loop

@@ -10,8 +10,8 @@ use lib.ListN.{length, drop}
 use Rattle.rules.specs.Hash.{eights, chunks, hashOf}
 use Rattle.rules.proofs.BytesLaws.{part-one}
 use Rattle.rules.proofs.HashLaws.{once-taken, once-left, eight-taken, eight-left}
-use Rattle.fxhash.proofs.hash.Statement.{statement}
-use Rattle.fxhash.proofs.hash.Tie as tie
+use Rattle.fxhash.proofs.hash_any.Statement.{statement}
+use Rattle.fxhash.proofs.hash_any.Tie as tie
 
 abbrev Inv-loop : tie.InvT-loop
 Inv-loop bytes h₀ i₀ h i = (i ≤ length bytes) × (eights ((length bytes - i) / 8) h (drop i bytes) ≡ eights (length bytes / 8) 0 bytes)
@@ -121,8 +121,8 @@ wide64-requires-3 c κs = search needs
 add-to-hash-requires-4 : tie.Need-add-to-hash-requires-4 Inv-loop μ-loop
 add-to-hash-requires-4 c κs = search needs
 
-cast-result : tie.Need-cast-result Inv-loop μ-loop
-cast-result c = search needs
+low-requires : tie.Need-low-requires Inv-loop μ-loop
+low-requires c κs = search needs
 
 joined3 : (c : tie.Joined3 Inv-loop μ-loop)
     → c .if3 .h ≡ eights (length (c .before .before .before .before .before .before .before .before .args .bytes .now) / 8) 0 (c .before .before .before .before .before .before .before .before .args .bytes .now)
@@ -138,10 +138,10 @@ joined3 c =
 
 returns : tie.Need-returns Inv-loop μ-loop
 unfolding hashOf
-returns c = ap (λ (n : ℕ). n % 2 ^ 32) (joined3 (c .before))
+returns c = c .low .ensures ∙ ap (λ (n : ℕ). n % 2 ^ 32) (joined3 (c .before))
 
-pub hash-spec : {M : Type 1} → statement M
-hash-spec =
+pub hash-any-spec : {M : Type 1} → statement M
+hash-any-spec =
     tie.close
     (tie.spec
     Inv-loop
@@ -170,5 +170,5 @@ hash-spec =
     wide32-requires-2
     wide64-requires-3
     add-to-hash-requires-4
-    cast-result
+    low-requires
     returns)
