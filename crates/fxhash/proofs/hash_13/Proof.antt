@@ -45,8 +45,18 @@ returns c =
     let first = next .before .before .before in
     let a = first .before .before .before in
     let byte = third .before in
-    rw (c .low .ensures, third .add-to-hash3 .ensures, byte .wide642 .ensures .0, byte .before .wide32 .ensures .0, byte .before .before .wide16 .ensures .0,
-    next .add-to-hash2 .ensures, next .before .wide64 .ensures .0, next .before .before .read-u32 .ensures, first .add-to-hash .ensures, first .before .read-u64 .ensures)
+    rw (
+      c .low .ensures,
+      third .add-to-hash3 .ensures,
+      byte .wide642 .ensures .0,
+      byte .before .wide32 .ensures .0,
+      byte .before .before .wide16 .ensures .0,
+      next .add-to-hash2 .ensures,
+      next .before .wide64 .ensures .0,
+      next .before .before .read-u32 .ensures,
+      first .add-to-hash .ensures,
+      first .before .read-u64 .ensures,
+    )
     (sym (hash-of-13 (a .args .bytes .now) (a .pre)))
 
 pub hash-13-spec : {M : Type 1} → statement M

@@ -39,8 +39,17 @@ returns c =
     let second = third .before .before in
     let first = second .before .before in
     let a = first .before .before .before in
-    rw (c .low .ensures, fourth .add-to-hash4 .ensures, fourth .before .read-u644 .ensures, third .add-to-hash3 .ensures, third .before .read-u643 .ensures,
-    second .add-to-hash2 .ensures, second .before .read-u642 .ensures, first .add-to-hash .ensures, first .before .read-u64 .ensures)
+    rw (
+      c .low .ensures,
+      fourth .add-to-hash4 .ensures,
+      fourth .before .read-u644 .ensures,
+      third .add-to-hash3 .ensures,
+      third .before .read-u643 .ensures,
+      second .add-to-hash2 .ensures,
+      second .before .read-u642 .ensures,
+      first .add-to-hash .ensures,
+      first .before .read-u64 .ensures,
+    )
     (sym (hash-of-32 (a .args .bytes .now) (a .pre)))
 
 pub hash-32-spec : {M : Type 1} → statement M
