@@ -40,10 +40,10 @@ loop-holds : tie.Need-loop-holds Inv-loop μ-loop
 loop-holds c = refl
 
 read-u64-requires : tie.Need-read-u64-requires Inv-loop μ-loop
-read-u64-requires c κs = search needs
+read-u64-requires c κs = omega arith
 
 read-u64-requires-2 : tie.Need-read-u64-requires-2 Inv-loop μ-loop
-read-u64-requires-2 c κs = search needs
+read-u64-requires-2 c κs = omega arith
 
 returns-3 : tie.Need-returns-3 Inv-loop μ-loop
 returns-3 c =
@@ -65,10 +65,10 @@ loop-again c =
     (sym (c .before .before .read-u64 .ensures) ∙ c .if3 .left ∙ c .before .read-u642 .ensures)
 
 read-u64-requires-3 : tie.Need-read-u64-requires-3 Inv-loop μ-loop
-read-u64-requires-3 c κs = search needs
+read-u64-requires-3 c κs = omega arith
 
 read-u64-requires-4 : tie.Need-read-u64-requires-4 Inv-loop μ-loop
-read-u64-requires-4 c κs = search needs
+read-u64-requires-4 c κs = omega arith
 
 returns-4 : tie.Need-returns-4 Inv-loop μ-loop
 returns-4 c =
