@@ -1,11 +1,9 @@
 // The calls for Rust or C. A slice is a pointer and a length, and an answer is eight numbers: outcome, row, slot, expected, found, count, offset, length.
-// Each returns 0, or 1 where the length of `answer` is not 8, and then nothing was done.
+// Each returns 0, or 1 where the length of `answer` is not 8, and then nothing was done. Find and insert, the hot ones, are crates of their own.
 ghost use mathlib.Core.Path.{_≡_};
-ghost use Rattle.rules.specs.Calls.{initAnswer, initBook, openAnswer, findAnswer, insertAnswer, insertBook, insertOld, nextAnswer};
+ghost use Rattle.rules.specs.Calls.{initAnswer, initBook, openAnswer, findAnswer, nextAnswer};
 ghost use Rattle.rules.specs.Check.{checkAnswer};
 ghost use Rattle.exports.specs.Numbers.{numbers, valueNumbers, returned, holds};
-use crate::numbers::of_found;
-use crate::numbers::of_inserted;
 use crate::numbers::of_made;
 use crate::numbers::of_next;
 use crate::numbers::of_opened;
@@ -16,8 +14,6 @@ use book_check::check_book;
 use memory_layout::init::init_in_place;
 use raw_slots::iter::next_occupied;
 use raw_slots::open::open;
-use raw_table::find::find;
-use raw_table::insert::insert;
 
 pub mod numbers;
 pub mod value;
@@ -71,18 +67,6 @@ pub extern "C" fn tally_check(book: &[u8], k: usize, v: usize, answer: &mut [u64
     0
 }
 
-#[no_mangle]
-pub extern "C" fn tally_find(book: &[u8], k: usize, v: usize, key: &[u8], answer: &mut [u64]) -> u64
-    ensures { λ r. ⌜ r ≡ returned (now (answer .entry)) ⌝ }
-    ensures { λ _. ⌜ now (answer .exit) ≡ holds (now (answer .entry)) (numbers (findAnswer (now (book .entry)) k v (now (key .entry)))) (now (answer .entry)) ⌝ }
-{
-    if answer.len() != 8 {
-        return 1;
-    }
-    store(answer, of_found(find(book, k, v, key)));
-    0
-}
-
 // Find's numbers, with the offset of the value in the book and its length; both 0 where there is none.
 #[no_mangle]
 pub extern "C" fn tally_value(
@@ -99,29 +83,6 @@ pub extern "C" fn tally_value(
         return 1;
     }
     store(answer, value_numbers(book, k, v, key));
-    0
-}
-
-// `old` has as many bytes as a value: what is replaced is left there.
-#[no_mangle]
-pub extern "C" fn tally_insert(
-    book: &mut [u8],
-    k: usize,
-    v: usize,
-    key: &[u8],
-    value: &[u8],
-    old: &mut [u8],
-    answer: &mut [u64],
-) -> u64
-    ensures { λ r. ⌜ r ≡ returned (now (answer .entry)) ⌝ }
-    ensures { λ _. ⌜ now (answer .exit) ≡ holds (now (answer .entry)) (numbers (insertAnswer (now (book .entry)) k v (now (key .entry)) (now (value .entry)) (now (old .entry)))) (now (answer .entry)) ⌝ }
-    ensures { λ _. ⌜ now (book .exit) ≡ holds (now (answer .entry)) (insertBook (now (book .entry)) k v (now (key .entry)) (now (value .entry)) (now (old .entry))) (now (book .entry)) ⌝ }
-    ensures { λ _. ⌜ now (old .exit) ≡ holds (now (answer .entry)) (insertOld (now (book .entry)) k v (now (key .entry)) (now (value .entry)) (now (old .entry))) (now (old .entry)) ⌝ }
-{
-    if answer.len() != 8 {
-        return 1;
-    }
-    store(answer, of_inserted(insert(book, k, v, key, value, old)));
     0
 }
 

@@ -2,9 +2,9 @@
 use borrow.Author.Needs.{needs}
 use borrow.Author.Tests.{eq-eqb, ne-eqb}
 use mathlib.Core.Path.{ap, _∙_}
 use Rattle.exports.specs.Numbers.{numbers}
-use Rattle.exports.proofs.tally_insert.Statement.{statement}
-use Rattle.exports.proofs.tally_insert.Tie as tie
+use Rattle.exports_insert.proofs.tally_insert.Statement.{statement}
+use Rattle.exports_insert.proofs.tally_insert.Tie as tie
 
 returns : tie.Need-returns
 returns c = let e = ne-eqb _ 8 (c .if1 .taken) in (rw e, (rw e, (rw e, rw e)))
