@@ -1,6 +1,6 @@
 -- When no row applies, told by words: the tag and the sizes are one number, the version is another. Assumes nothing.
-use mathlib.Core.Path.{_≡_, refl, sym, ap, _∙_}
-use mathlib.Core.Bool.{Bool, true, false, _||_}
+use mathlib.Core.Path.{_≡_, sym, ap, _∙_}
+use mathlib.Core.Bool.{true}
 use mathlib.Core.List.{List, [], _∷_, _++_}
 use mathlib.Core.Option.{none}
 use Prim.Native.Nat.{ℕ, zero, suc, _+_, _≤_, _<_}
@@ -14,14 +14,7 @@ use Rattle.rules.specs.Bounds.{Sizes}
 use Rattle.rules.specs.Layout.{areSizes, isSlotCount, bookTag, version, total, slotCount}
 use Rattle.rules.specs.Rows.{headerRows}
 use Rattle.rules.proofs.BytesLaws.{Bytes, bytes-part, length-part, part-at, part-is, same-is, same-self, same-number}
-use Rattle.rules.proofs.TestLaws.{impossible}
 use Rattle.rules.proofs.LayoutLaws.{sizes}
-
--- where not one of two holds, neither does
-pub neither : (p q : Bool) → p || q ≡ false → (p ≡ false) × (q ≡ false)
-neither true q e = impossible cc
-neither false true e = impossible cc
-neither false false e = (refl, refl)
 
 bytes-nil : Bytes []
 bytes-nil i = lit< tt

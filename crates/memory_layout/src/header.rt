@@ -134,7 +134,10 @@ fn stated(k: usize, v: usize) -> u64
 fn passes(book: &[u8], k: usize, v: usize) -> bool
     ensures { λ r. ⌜ (r ≡ true → firstSome (headerRows (now (book .entry)) k v) ≡ none) ⌝ }
 {
-    if !are_sizes(k, v) | (book.len() < 32) {
+    if !are_sizes(k, v) {
+        return false;
+    }
+    if 32 > book.len() {
         return false;
     }
     let slots = fxhash::read_u64(book, 16);
