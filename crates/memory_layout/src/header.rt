@@ -1,15 +1,14 @@
 // Rows 1 to 10, which every call on a book tests first. Inside, a row is its number, and 0 is none.
 ghost use mathlib.Core.Path.{_≡_};
 ghost use mathlib.Core.Bool.{true, cond, not};
-ghost use mathlib.Core.List.{[], _∷_, _++_};
 ghost use mathlib.Core.Option.{none, some};
 ghost use Prim.Native.Nat.{_+_, _≤_, _<_};
 ghost use lib.Dec.{eqb};
 ghost use lib.ListN.{length, drop};
-ghost use Rattle.rules.specs.Bytes.{byteAt, part, le, leBytes, sameBytes};
+ghost use Rattle.rules.specs.Bytes.{byteAt, part, leBytes, sameBytes};
 ghost use Rattle.rules.specs.First.{firstSome};
 ghost use Rattle.rules.specs.Bounds.{Sizes};
-ghost use Rattle.rules.specs.Layout.{areSizes, isSlotCount, bookTag};
+ghost use Rattle.rules.specs.Layout.{areSizes, isSlotCount};
 ghost use Rattle.rules.specs.Rows.{refusal, headerRows};
 ghost use Rattle.memory_layout.specs.Checked.{numbered, sizeRows, checked};
 ghost use Rattle.memory_layout.specs.Said.{saidHeader};
@@ -121,33 +120,27 @@ fn header_rows(book: &[u8], k: usize, v: usize) -> Header
     Header::Slots(fxhash::read_u64(book, 16) as usize)
 }
 
-// The number that the first 8 bytes of a header for these sizes stand for.
-fn stated(k: usize, v: usize) -> u64
-    requires { ⌜ Sizes k v ⌝ }
-    ensures { λ r. ⌜ r ≡ le (bookTag ++ (1 ∷ k ∷ v ∷ 32 ∷ [])) ⌝ }
-{
-    let sizes = 1 + k * 0x100 + v * 0x1_0000 + 32 * 0x100_0000;
-    HEADER_TAG as u64 + (sizes as u64) * 0x1_0000_0000
-}
-
-// Whether no row applies, by fewer looks than the rows take: the tag and the four sizes are one word. `false` leaves it to the rows.
+// Whether no row applies, without asking which. A size that the header states is a byte, so it is none above 255. `false` leaves it to the rows.
 fn passes(book: &[u8], k: usize, v: usize) -> bool
     ensures { λ r. ⌜ (r ≡ true → firstSome (headerRows (now (book .entry)) k v) ≡ none) ⌝ }
 {
-    if !are_sizes(k, v) {
+    if (k == 0) | (book.len() < 32) {
         return false;
     }
-    if 32 > book.len() {
+    if byte_not(book, 5, k) | byte_not(book, 6, v) {
         return false;
     }
     let slots = fxhash::read_u64(book, 16);
     if !is_slot_count(slots) {
         return false;
     }
-    let sizes = fxhash::read_u64(book, 0) == stated(k, v);
-    let version = fxhash::read_u32(book, 24) == CURRENT_FILE_FORMAT_VERSION;
-    let length = book.len() == kinds::total(k, v, slots as usize);
-    sizes & version & length
+    if word_not(book, 0, HEADER_TAG) | byte_not(book, 4, 1) {
+        return false;
+    }
+    if word_not(book, 24, CURRENT_FILE_FORMAT_VERSION) | byte_not(book, 7, 32) {
+        return false;
+    }
+    book.len() == kinds::total(k, v, slots as usize)
 }
 
 // Every call begins with this, so a sound header is told first, and cheaply.
