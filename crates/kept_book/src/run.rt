@@ -98,6 +98,13 @@ fn ask(
     }
 }
 
+fn init(numbers: &[u64; 5], book: &mut [u8], out: &mut [u8], used: usize) -> usize {
+    let k = numbers[0] as usize;
+    let v = numbers[1] as usize;
+    let slots = numbers[2] as usize;
+    table::say_init(book, k, v, slots, numbers[3], numbers[4], out, used)
+}
+
 fn run(
     call: Call,
     line: &[u8],
@@ -125,16 +132,7 @@ fn run(
         }
         Call::Init => State {
             len,
-            used: table::say_init(
-                &mut book[0..len],
-                a,
-                b,
-                c,
-                numbers[3],
-                numbers[4],
-                out,
-                used,
-            ),
+            used: init(numbers, &mut book[0..len], out, used),
         },
         Call::Insert => State {
             len,
