@@ -141,11 +141,13 @@ pub fn hash(bytes: &[u8]) -> u32
     if bytes.len() == 8 {
         return hash_8(bytes);
     }
-    if bytes.len() == 13 {
-        return hash_13(bytes);
-    }
-    if bytes.len() == 32 {
-        return hash_32(bytes);
+    if bytes.len() > 8 {
+        if bytes.len() == 13 {
+            return hash_13(bytes);
+        }
+        if bytes.len() == 32 {
+            return hash_32(bytes);
+        }
     }
     hash_any(bytes)
 }

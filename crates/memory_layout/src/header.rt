@@ -39,10 +39,10 @@ pub(crate) fn are_sizes(k: usize, v: usize) -> bool
 pub fn is_slot_count(n: u64) -> bool
     ensures { λ r. ⌜ r ≡ isSlotCount n ⌝ }
 {
-    if n < 16 {
-        return false;
+    if n > 15 {
+        return (n & (n - 1) == 0) & (n <= SLOT_LIMIT);
     }
-    (n & (n - 1) == 0) & (n <= SLOT_LIMIT)
+    false
 }
 
 // The row if it applies, or else what the later rows say.
@@ -120,14 +120,12 @@ fn header_rows(book: &[u8], k: usize, v: usize) -> Header
     Header::Slots(fxhash::read_u64(book, 16) as usize)
 }
 
-// Whether no row applies, without asking which. A size that the header states is a byte, so it is none above 255. `false` leaves it to the rows.
+// Whether no row applies to a book that has a whole header, without asking which. A size that the header states is a byte, so it is none above 255. `false` leaves it to the rows.
 fn passes(book: &[u8], k: usize, v: usize) -> bool
+    requires { ⌜ 32 ≤ length (now book) ⌝ }
     ensures { λ r. ⌜ (r ≡ true → firstSome (headerRows (now (book .entry)) k v) ≡ none) ⌝ }
 {
-    if (k == 0) | (book.len() < 32) {
-        return false;
-    }
-    if byte_not(book, 5, k) | byte_not(book, 6, v) {
+    if (k == 0) | byte_not(book, 5, k) | byte_not(book, 6, v) {
         return false;
     }
     let slots = fxhash::read_u64(book, 16);
@@ -147,8 +145,10 @@ fn passes(book: &[u8], k: usize, v: usize) -> bool
 pub fn check_header(book: &[u8], k: usize, v: usize) -> Header
     ensures { λ r. ⌜ saidHeader r ≡ checked (now (book .entry)) k v ⌝ }
 {
-    if passes(book, k, v) {
-        return Header::Slots(fxhash::read_u64(book, 16) as usize);
+    if book.len() > 31 {
+        if passes(book, k, v) {
+            return Header::Slots(fxhash::read_u64(book, 16) as usize);
+        }
     }
     header_rows(book, k, v)
 }

@@ -49,6 +49,9 @@ pub fn equals(a: &[u8], b: &[u8]) -> bool
     if a.len() != b.len() {
         return false;
     }
+    if a.len() == 8 {
+        return fxhash::read_u64(a, 0) == fxhash::read_u64(b, 0);
+    }
     if a.len() < 8 {
         return same_few(a, b);
     }

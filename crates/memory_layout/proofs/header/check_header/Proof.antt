@@ -16,12 +16,12 @@ use Rattle.memory_layout.proofs.header.check_header.Tie as tie
 passes-requires : tie.Need-passes-requires
 passes-requires c κs = search needs
 
-rows : (c : tie.Then1) → firstSome (headerRows (now (c .before .before .before .args .book)) (c .before .before .before .args .k) (c .before .before .before .args .v)) ≡ none
-rows c = c .before .passes .ensures (c .if1 .taken)
+rows : (c : tie.Then2) → firstSome (headerRows (now (c .before .before .before .before .args .book)) (c .before .before .before .before .args .k) (c .before .before .before .before .args .v)) ≡ none
+rows c = c .before .passes .ensures (c .if2 .taken)
 
 read-u64-requires : tie.Need-read-u64-requires
 read-u64-requires c κs =
-    let a = c .before .before .before .args in
+    let a = c .before .before .before .before .args in
     omega (arith, passed (now (a .book)) (a .k) (a .v) (rows c) .long)
 
 returns : tie.Need-returns
