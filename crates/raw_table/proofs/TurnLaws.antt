@@ -37,15 +37,18 @@ module _ (s key : List ℕ) (k v S p : ℕ) where
   abbrev pub Less : ℕ → ℕ → Type 0
   Less left rest = (ms : List Bool) → left ≡ word ms → (rest < left) × (rest ≡ word (others ms))
 
+  -- the group's eight bytes are bytes of the book
+  pub group-long : (passed : Passed s k v S) → p < S → length (part 8 (controlAt k v S p) s) ≡ 8
+  group-long passed h = length-part 8 (controlAt k v S p) s (omega (arith, passed .long))
+
   pub all-left : (passed : Passed s k v S) → p < S → (eq : ℕ) → eq ≡ word (reports (tagOf key) (part 8 (controlAt k v S p) s)) → Left eq
   unfolding equalKey
-  all-left passed h eq e =
-      let g : controlAt k v S p + 8 ≤ length s = omega (arith, passed .long) in (
-        reports (tagOf key) (part 8 (controlAt k v S p) s),
-        length-reports (tagOf key) (part 8 (controlAt k v S p) s) ∙ length-part 8 (controlAt k v S p) s g,
-        e,
-        refl,
-      )
+  all-left passed h eq e = (
+    reports (tagOf key) (part 8 (controlAt k v S p) s),
+    length-reports (tagOf key) (part 8 (controlAt k v S p) s) ∙ group-long passed h,
+    e,
+    refl,
+  )
 
   pub none-left : (left : ℕ) → Left left → left ≡ 0 → equalKey 8 reports s k v S key p ≡ none
   none-left left l z = l .3 ∙ try-none Holds (positions 0 (l .0)) (positions-none (l .0) 0 (sym (l .2) ∙ z))

@@ -1,11 +1,15 @@
 // The one search of find, value and insert.
 ghost use mathlib.Core.Path.{_≡_};
-ghost use Prim.Native.Nat.{_<_};
+ghost use Prim.Native.Nat.{_-_, _/_, _≤_, _<_};
 ghost use lib.ListN.{length};
 ghost use Rattle.rules.specs.Bounds.{Sizes, Passed};
 ghost use Rattle.rules.specs.Bytes.{sameBytes};
+ghost use Rattle.rules.specs.Hash.{tagOf, startOf};
 ghost use Rattle.rules.specs.Layout.{keyOf};
-ghost use Rattle.rules.specs.Search.{spotOf};
+ghost use Rattle.rules.specs.Group.{reports};
+ghost use Rattle.rules.specs.Search.{groupAt, searchFrom, spotOf};
+ghost use Rattle.group_query.specs.Marks.{word, empties};
+ghost use Rattle.raw_table.specs.Seq.{seqAt};
 ghost use Rattle.raw_table.specs.Said.{saidSpot};
 use crate::probe::ProbeSeq;
 use group_query::First;
@@ -76,20 +80,35 @@ pub fn holds(book: &[u8], slot: Slot, key: &[u8], k: usize, v: usize, slots: usi
     equals(&book[at..end], key)
 }
 
-pub fn search(book: &[u8], key: &[u8], k: usize, v: usize, slots: usize) -> Spot
-    requires { ⌜ Passed (now book) k v slots ⌝ }
-    ensures { λ r. ⌜ saidSpot r ≡ spotOf (now (book .entry)) k v slots (now (key .entry)) ⌝ }
+// The query over the group at a control position.
+fn query_at(book: &[u8], p: Position, h2: u8, k: usize, v: usize, slots: usize) -> GroupQuery
+    requires { ⌜ Passed (now book) k v slots × (p .0 < slots) ⌝ }
+    ensures { λ r. ⌜ (r .eq ≡ word (reports h2 (groupAt 8 (now (book .entry)) k v slots (p .0)))) × (r .empty ≡ word (empties (groupAt 8 (now (book .entry)) k v slots (p .0)))) ⌝ }
 {
-    let hash = fxhash::hash(key);
-    let h2 = fxhash::h2(hash);
+    GroupQuery::from(book, control_offset(p, k, v, slots).0, h2)
+}
+
+// The search from a group on, those before it having decided nothing.
+fn search_from(
+    book: &[u8],
+    key: &[u8],
+    k: usize,
+    v: usize,
+    slots: usize,
+    h2: u8,
+    from: ProbeSeq,
+    before: usize,
+) -> Spot
+    requires { ⌜ Passed (now book) k v slots × (h2 ≡ tagOf (now key)) × (before ≤ slots / 8) × (from ≡ seqAt (startOf slots (now key)) slots before) ⌝ }
+    ensures { λ r. ⌜ saidSpot r ≡ searchFrom 8 reports (now (book .entry)) k v slots (now (key .entry)) (slots / 8 - before) before ⌝ }
+{
     let groups = slots / 8;
-    let control = control_offset(Position(0), k, v, slots).0;
     let mut answer = Spot::Full(groups);
-    let mut ps = ProbeSeq::new(fxhash::h1(hash), slots);
-    let mut n: usize = 0;
+    let mut ps = from;
+    let mut n = before;
     'search: while n < groups {
         let p = ps.index;
-        let query = GroupQuery::from(book, control + p, h2);
+        let query = query_at(book, Position(p), h2, k, v, slots);
         let mut left = query.eq;
         while left != 0 {
             let slot = slot_of(Position(p), lowest_of(left), slots);
@@ -107,4 +126,30 @@ pub fn search(book: &[u8], key: &[u8], k: usize, v: usize, slots: usize) -> Spot
         n += 1;
     }
     answer
+}
+
+// Most searches end in the first group, at its first candidate or, where it has none, at an empty slot. That is told before any loop.
+pub fn search(book: &[u8], key: &[u8], k: usize, v: usize, slots: usize) -> Spot
+    requires { ⌜ Passed (now book) k v slots ⌝ }
+    ensures { λ r. ⌜ saidSpot r ≡ spotOf (now (book .entry)) k v slots (now (key .entry)) ⌝ }
+{
+    let hash = fxhash::hash(key);
+    let h2 = fxhash::h2(hash);
+    let mut ps = ProbeSeq::new(fxhash::h1(hash), slots);
+    let mut n: usize = 0;
+    let p = ps.index;
+    let query = query_at(book, Position(p), h2, k, v, slots);
+    if query.eq != 0 {
+        let slot = slot_of(Position(p), lowest_of(query.eq), slots);
+        if holds(book, slot, key, k, v, slots) {
+            return Spot::Same(slot, 1);
+        }
+    } else {
+        if let First::At(m) = query.first_empty() {
+            return Spot::Free(slot_of(Position(p), m, slots), 1);
+        }
+        ps = ps.advance(slots);
+        n = 1;
+    }
+    search_from(book, key, k, v, slots, h2, ps, n)
 }

@@ -1,283 +1,193 @@
--- The outer invariant: n groups did not decide, so the whole is what the rest gives. The inner one: the candidates that are left decide the group.
+-- The first group decides, or the whole is what the rest gives: after its first candidate it is examined again, and where it has none it is left behind.
+-- Assumes nothing.
 use borrow.Author.Needs.{needs}
-use mathlib.Core.Path.{_≡_, refl, sym, ap, ap₂, _∙_}
+use mathlib.Core.Path.{_≡_, sym, ap, _∙_}
 use mathlib.Core.Option.{none, some}
-use Prim.Native.Nat.{ℕ, suc, _+_, _-_, _*_, _/_, _%_, _^_, _≤_, _<_}
+use mathlib.Core.Logic.{⊎-elim}
+use Prim.Native.Nat.{ℕ, _+_, _/_, _%_, _≤_, _<_}
 use native.Mathlib.Nat.{mod-lt}
-use native.Mathlib.Numerals.{add-one}
 use native.Mathlib.Omega.{arith}
-use lib.ListN.{length}
-use Rattle.rules.specs.Bytes.{part, sameBytes}
-use Rattle.rules.specs.Layout.{keyOf, controlAt}
+use Rattle.rules.specs.Bytes.{sameBytes}
+use Rattle.rules.specs.Layout.{keyOf}
 use Rattle.rules.specs.Hash.{tag, tagOf, startOf}
 use Rattle.rules.specs.Group.{reports, firstEmpty}
-use Rattle.rules.specs.Probe.{groupStart, slotOf}
-use Rattle.rules.specs.Search.{same, free, full, spotOf, equalKey}
-use Rattle.rules.proofs.BytesLaws.{length-part}
+use Rattle.rules.specs.Probe.{groupStart}
+use Rattle.rules.specs.Search.{groupAt, equalKey, same, free, spotOf}
 use Rattle.rules.proofs.GroupLaws.{empty-lt}
-use Rattle.rules.proofs.LayoutLaws.{total-fits}
-use Rattle.rules.proofs.ProbeLaws.{start-lt}
-use Rattle.rules.proofs.SearchLaws.{Rest, at-start, at-end, at-same, at-free, at-next}
-use Rattle.group_query.specs.Marks.{word, empties, saidFirst}
-use Rattle.raw_table.specs.declared.probe.ProbeSeq.{ProbeSeq}
-use Rattle.raw_table.specs.declared.search.Spot.the-variants.{Full}
-use Rattle.raw_table.specs.Said.{saidSpot}
+use Rattle.rules.proofs.SearchLaws.{Rest, at-start, at-same, at-free, at-next}
+use Rattle.group_query.specs.Marks.{word, saidFirst}
 use Rattle.raw_table.specs.Seq.{seqAt}
-use Rattle.raw_table.proofs.SeqLaws.{seq-index, seq-room}
-use Rattle.raw_table.proofs.TurnLaws.{Holds, Left, all-left, none-left, lowest-lt, tried-yes, tried-no, rest-less}
+use Rattle.raw_table.proofs.SeqLaws.{seq-stands, seq-room}
+use Rattle.raw_table.proofs.TurnLaws.{Left, group-long, all-left, none-left, lowest-lt, tried-yes}
 use Rattle.raw_table.proofs.search.search.Statement.{statement}
 use Rattle.raw_table.proofs.search.search.Tie as tie
 
-abbrev Inv-loop : tie.InvT-loop
-Inv-loop book key k v slots hash h2 groups control answer₀ ps n p query left₀ answer left = Left book key k v slots p left × (answer ≡ answer₀)
+abbrev start : tie.After-new → tie.Start
+start c = c .before .before .before .before .before .before
 
-abbrev μ-loop : tie.MeasureT-loop
-μ-loop book key k v slots hash h2 groups control answer₀ ps n p query left₀ answer left = left
+-- the probe before its first group, and where that starts
+begun : (c : tie.After-new) → c .new .result ≡ seqAt (startOf (start c .args .slots) (start c .args .key .now)) (start c .args .slots) 0
+begun c =
+    let S = start c .args .slots in
+    c .new .ensures ∙ ap (λ (h : ℕ). seqAt (h % S) S 0) (c .before .h1 .ensures .0 ∙ c .before .before .before .hash .ensures)
 
-abbrev Inv-search : tie.InvT-search
-Inv-search book key k v slots hash h2 groups control answer₀ ps₀ n₀ answer ps n =
-    (n ≤ groups) × (ps ≡ seqAt (startOf slots key) slots n) × (answer ≡ Full groups) × (spotOf book k v slots key ≡ Rest 8 reports book k v slots key groups n)
+stands : (c : tie.After-new)
+    → (c .new .result .index ≡ groupStart 8 (startOf (start c .args .slots) (start c .args .key .now)) (start c .args .slots) 0) × (c .new .result .index < start c .args .slots)
+stands c = let a = start c .args in seq-stands (startOf (a .slots) (a .key .now)) (a .slots) 0 (c .new .result) (begun c) (start c .pre .slots)
 
-abbrev μ-search : tie.MeasureT-search
-μ-search book key k v slots hash h2 groups control answer₀ ps₀ n₀ answer ps n = groups - n
+some-group : (c : tie.After-new) → 0 < start c .args .slots / 8
+some-group c = omega (arith, start c .pre .slots .least)
 
-abbrev start : tie.In-search Inv-loop μ-loop Inv-search μ-search → tie.Start Inv-loop μ-loop Inv-search μ-search
-start c = c .before .before .before .before .before .before .before .before .before
+tag-is : (c : tie.After-new) → c .before .before .h2 .result ≡ tagOf (start c .args .key .now)
+tag-is c = c .before .before .h2 .ensures .0 ∙ ap tag (c .before .before .before .hash .ensures)
 
--- where a turn's group starts
-start-is : (c : tie.In-search Inv-loop μ-loop Inv-search μ-search)
-    → (c .before .search .ps .index ≡ groupStart 8 (startOf (start c .args .slots) (start c .args .key .now)) (start c .args .slots) (c .before .search .n))
-    × (c .before .search .ps .index < start c .args .slots)
-start-is c =
-    let a = start c .args in
-    let b = startOf (a .slots) (a .key .now) in
-    let e : c .before .search .ps .index ≡ groupStart 8 b (a .slots) (c .before .search .n) =
-    ap (λ (p : ProbeSeq). p .index) (c .before .search .inv .1) ∙ seq-index b (a .slots) (c .before .search .n) in
-    (e, omega (arith, e, start-lt 8 b (a .slots) (c .before .search .n) (omega (arith, start c .pre .slots .least))))
-
--- the tag, and the place of the group's first control byte
-tag-is : (c : tie.In-search Inv-loop μ-loop Inv-search μ-search) → c .before .before .before .before .before .h2 .result ≡ tagOf (start c .args .key .now)
-tag-is c = c .before .before .before .before .before .h2 .ensures .0 ∙ ap tag (c .before .before .before .before .before .before .hash .ensures)
-
-group-is : (c : tie.In-search Inv-loop μ-loop Inv-search μ-search)
-    → (c .before .before .before .before .control-offset .result .0 + c .before .search .ps .index ≡ controlAt (start c .args .k) (start c .args .v) (start c .args .slots) (c .before .search .ps .index))
-    × (controlAt (start c .args .k) (start c .args .v) (start c .args .slots) (c .before .search .ps .index) + 8 ≤ length (start c .args .book .now))
-    × (length (start c .args .book .now) < 2 ^ 29)
-group-is c =
-    let a = start c .args in
-    let p = start c .pre in (
-      omega (arith, c .before .before .before .before .control-offset .ensures),
-      omega (arith, start-is c .1, p .long),
-      omega (arith, p .long, total-fits (a .k) (a .v) (a .slots) (p .sizes) (p .slots)),
-    )
-
--- what the query says of the group's empty positions
-empty-is : (c : tie.After-first-empty Inv-loop μ-loop Inv-search μ-search)
-    → saidFirst (c .first-empty .result) ≡ firstEmpty (part 8 (controlAt (start (c .before .before .before .before) .args .k) (start (c .before .before .before .before) .args .v) (start (c .before .before .before .before) .args .slots) (c .before .before .before .before .before .search .ps .index)) (start (c .before .before .before .before) .args .book .now))
-empty-is c =
-    let t = c .before .before .before .before in
-    let s = start t .args .book .now in
-    let g = group-is t in
-    let o = controlAt (start t .args .k) (start t .args .v) (start t .args .slots) (t .before .search .ps .index) in
-    c .first-empty .ensures (part 8 o s) (length-part 8 o s (g .1)) (c .before .before .before .from .ensures .1 ∙ ap (λ (x : ℕ). word (empties (part 8 x s))) (g .0))
-
--- no candidate has the key
-no-key : (c : tie.After-loop Inv-loop μ-loop Inv-search μ-search)
-    → equalKey 8 reports (start (c .before .before .before) .args .book .now) (start (c .before .before .before) .args .k) (start (c .before .before .before) .args .v) (start (c .before .before .before) .args .slots) (start (c .before .before .before) .args .key .now) (c .before .before .before .before .search .ps .index) ≡ none
-no-key c =
-    let t = c .before .before .before in
-    let a = start t .args in
-    none-left (a .book .now) (a .key .now) (a .k) (a .v) (a .slots) (t .before .search .ps .index) (c .before .loop .left) (c .before .loop .inv .0) (c .loop-test .left)
-
--- the lowest candidate has the key, or not
-tried-is : (c : tie.After-holds Inv-loop μ-loop Inv-search μ-search)
-    → Holds (start (c .before .before .before .before .before .before) .args .book .now) (start (c .before .before .before .before .before .before) .args .key .now) (start (c .before .before .before .before .before .before) .args .k) (start (c .before .before .before .before .before .before) .args .v) (start (c .before .before .before .before .before .before) .args .slots) (c .before .before .before .before .before .before .before .search .ps .index) (c .before .before .lowest-of .result) ≡ c .holds .result
-tried-is c =
-    let a = start (c .before .before .before .before .before .before) .args in
-    ap (λ (i : ℕ). sameBytes (keyOf (a .book .now) (a .k) (a .v) i) (a .key .now)) (sym (c .before .slot-of .ensures .0)) ∙ sym (c .holds .ensures)
-
--- the first empty position, where the query tells one
-hole-is : (c : tie.After-known-told Inv-loop μ-loop Inv-search μ-search)
-    → firstEmpty (part 8 (controlAt (start (c .before .before .before .before .before .before .before) .args .k) (start (c .before .before .before .before .before .before .before) .args .v) (start (c .before .before .before .before .before .before .before) .args .slots) (c .before .before .before .before .before .before .before .before .search .ps .index)) (start (c .before .before .before .before .before .before .before) .args .book .now)) ≡ some (c .before .m .given .0 .0)
-hole-is c = sym (empty-is (c .before .before .before)) ∙ ap saidFirst (c .before .m .given .1)
-
-hash-requires : tie.Need-hash-requires Inv-loop μ-loop Inv-search μ-search
-hash-requires c κs = search needs
-
-h2-requires : tie.Need-h2-requires Inv-loop μ-loop Inv-search μ-search
-h2-requires c κs = search needs
-
-control-offset-requires : tie.Need-control-offset-requires Inv-loop μ-loop Inv-search μ-search
-control-offset-requires c κs = search needs
-
-h1-requires : tie.Need-h1-requires Inv-loop μ-loop Inv-search μ-search
-h1-requires c κs = search needs
-
-new-requires : tie.Need-new-requires Inv-loop μ-loop Inv-search μ-search
-new-requires c κs = search needs
-
-search-holds : tie.Need-search-holds Inv-loop μ-loop Inv-search μ-search
-search-holds c =
-    let a = c .before .before .before .before .before .before .before .args in
-    let h = c .before .h1 .ensures .0 ∙ c .before .before .before .before .hash .ensures in
-    (omega arith, c .new .ensures ∙ ap (λ (x : ℕ). seqAt (x % a .slots) (a .slots) 0) h, refl, at-start 8 reports (a .book .now) (a .k) (a .v) (a .slots) (a .key .now))
-
-add-from : tie.Need-add-from Inv-loop μ-loop Inv-search μ-search
-add-from c = omega (arith, group-is c .0, group-is c .1, group-is c .2)
-
-from-requires : tie.Need-from-requires Inv-loop μ-loop Inv-search μ-search
-from-requires c κs = omega (arith, group-is c .0, group-is c .1)
-
-loop-holds : tie.Need-loop-holds Inv-loop μ-loop Inv-search μ-search
-loop-holds c =
+-- the candidates, all of which are still to be tried
+left-is : (c : tie.After-query-at) → Left (start (c .before) .args .book .now) (start (c .before) .args .key .now) (start (c .before) .args .k) (start (c .before) .args .v) (start (c .before) .args .slots) (c .before .new .result .index) (c .query-at .result .eq)
+left-is c =
     let t = c .before in
     let a = start t .args in
-    let e = c .from .ensures .0 ∙ ap₂ (λ (h o : ℕ). word (reports h (part 8 o (a .book .now)))) (tag-is t) (group-is t .0) in
-    (all-left (a .book .now) (a .key .now) (a .k) (a .v) (a .slots) (t .before .search .ps .index) (start t .pre) (start-is t .1) (c .from .result .eq) e, refl)
+    let p = t .new .result .index in
+    all-left (a .book .now) (a .key .now) (a .k) (a .v) (a .slots) p (start t .pre) (stands t .1) (c .query-at .result .eq)
+    (c .query-at .ensures .0 ∙ ap (λ (h : ℕ). word (reports h (groupAt 8 (a .book .now) (a .k) (a .v) (a .slots) p))) (tag-is t))
 
-lowest-of-requires : tie.Need-lowest-of-requires Inv-loop μ-loop Inv-search μ-search
-lowest-of-requires c κs = search needs
+-- there is none
+no-key : (c : tie.Else1) → equalKey 8 reports (start (c .before .before .before) .args .book .now) (start (c .before .before .before) .args .k) (start (c .before .before .before) .args .v) (start (c .before .before .before) .args .slots) (start (c .before .before .before) .args .key .now) (c .before .before .before .new .result .index) ≡ none
+no-key c =
+    let t = c .before .before in
+    let a = start (t .before) .args in
+    none-left (a .book .now) (a .key .now) (a .k) (a .v) (a .slots) (t .before .new .result .index) (t .query-at .result .eq) (left-is t) (c .if1 .left)
 
-slot-of-requires : tie.Need-slot-of-requires Inv-loop μ-loop Inv-search μ-search
-slot-of-requires c κs =
+-- what the query says of the group's empty positions
+empty-is : (c : tie.After-first-empty)
+    → saidFirst (c .first-empty .result) ≡ firstEmpty (groupAt 8 (start (c .before .before .before .before) .args .book .now) (start (c .before .before .before .before) .args .k) (start (c .before .before .before .before) .args .v) (start (c .before .before .before .before) .args .slots) (c .before .before .before .before .new .result .index))
+empty-is c =
     let t = c .before .before .before .before in
     let a = start t .args in
-    let l = lowest-lt (a .book .now) (a .key .now) (a .k) (a .v) (a .slots) (t .before .search .ps .index) (c .before .before .loop .left) (c .lowest-of .result) (c .before .before .loop .inv .0) (c .lowest-of .ensures) in
-    (start t .pre .slots, start-is t .1, omega (arith, l))
+    let p = t .new .result .index in
+    c .first-empty .ensures (groupAt 8 (a .book .now) (a .k) (a .v) (a .slots) p) (group-long (a .book .now) (a .key .now) (a .k) (a .v) (a .slots) p (start t .pre) (stands t .1)) (c .before .before .before .query-at .ensures .1)
 
-holds-requires : tie.Need-holds-requires Inv-loop μ-loop Inv-search μ-search
+-- the first empty position, where the query tells one
+hole-is : (c : tie.After-known-told)
+    → firstEmpty (groupAt 8 (start (c .before .before .before .before .before .before .before) .args .book .now) (start (c .before .before .before .before .before .before .before) .args .k) (start (c .before .before .before .before .before .before .before) .args .v) (start (c .before .before .before .before .before .before .before) .args .slots) (c .before .before .before .before .before .before .before .new .result .index)) ≡ some (c .before .m .given .0 .0)
+hole-is c = sym (empty-is (c .before .before .before)) ∙ ap saidFirst (c .before .m .given .1)
+
+-- where the ways past the first group meet, the rest of the search is still to come
+joined : (c : tie.Joined1)
+    → (c .if1 .n ≤ start (c .before .before .before) .args .slots / 8)
+    × (c .if1 .ps ≡ seqAt (startOf (start (c .before .before .before) .args .slots) (start (c .before .before .before) .args .key .now)) (start (c .before .before .before) .args .slots) (c .if1 .n))
+    × (spotOf (start (c .before .before .before) .args .book .now) (start (c .before .before .before) .args .k) (start (c .before .before .before) .args .v) (start (c .before .before .before) .args .slots) (start (c .before .before .before) .args .key .now)
+    ≡ Rest 8 reports (start (c .before .before .before) .args .book .now) (start (c .before .before .before) .args .k) (start (c .before .before .before) .args .v) (start (c .before .before .before) .args .slots) (start (c .before .before .before) .args .key .now) (start (c .before .before .before) .args .slots / 8) (c .if1 .n))
+joined c =
+    let t = c .before .before .before in
+    let a = start t .args in
+    let b = startOf (a .slots) (a .key .now) in
+    let whole = at-start 8 reports (a .book .now) (a .k) (a .v) (a .slots) (a .key .now) in
+    ⊎-elim
+    (λ w. (omega arith, rw (w .5, w .6) (begun t), rw (w .6) whole))
+    (λ w. let e : tie.After-first-empty = record { before = record { before = c .before; if1 = w .0 }; first-empty = w .1 } in (
+      omega (arith, some-group t),
+      rw (w .5, w .6) (w .4 .ensures b 0 (begun t)),
+      rw (w .6) (whole ∙ at-next 8 reports (a .book .now) (a .k) (a .v) (a .slots) (a .key .now) (a .slots / 8) 0 (t .new .result .index) (some-group t) (stands t .0) (no-key (e .before)) (sym (empty-is e) ∙ ap saidFirst (w .3 .given .1))),
+    ))
+    (c .if1 .came)
+
+hash-requires : tie.Need-hash-requires
+hash-requires c κs = search needs
+
+h2-requires : tie.Need-h2-requires
+h2-requires c κs = search needs
+
+h1-requires : tie.Need-h1-requires
+h1-requires c κs = search needs
+
+new-requires : tie.Need-new-requires
+new-requires c κs = search needs
+
+query-at-requires : tie.Need-query-at-requires
+query-at-requires c κs = (start c .pre, stands c .1)
+
+lowest-of-requires : tie.Need-lowest-of-requires
+lowest-of-requires c κs = search needs
+
+slot-of-requires : tie.Need-slot-of-requires
+slot-of-requires c κs =
+    let q = c .before .before .before in
+    let t = q .before in
+    let a = start t .args in
+    let l = lowest-lt (a .book .now) (a .key .now) (a .k) (a .v) (a .slots) (t .new .result .index) (q .query-at .result .eq) (c .lowest-of .result) (left-is q) (c .lowest-of .ensures) in
+    (start t .pre .slots, stands t .1, omega (arith, l))
+
+holds-requires : tie.Need-holds-requires
 holds-requires c κs = search needs
 
-add-t27 : tie.Need-add-t27 Inv-loop μ-loop Inv-search μ-search
-add-t27 c = let t = c .before .before .before .before .before .before .before in omega (arith, t .search-test .taken, start t .pre .slots .most)
-
-without-lowest-requires : tie.Need-without-lowest-requires Inv-loop μ-loop Inv-search μ-search
-without-lowest-requires c κs = search needs
-
-loop-less : tie.Need-loop-less Inv-loop μ-loop Inv-search μ-search
-loop-less c =
-    let l = c .before .before .before .before .before .before .loop in
-    let t = c .before .before .before .before .before .before .before .before in
+returns : tie.Need-returns
+returns c =
+    let q = c .before .before .before .before .before .before in
+    let t = q .before in
     let a = start t .args in
-    rest-less (a .book .now) (a .key .now) (a .k) (a .v) (a .slots) (t .before .search .ps .index) (l .left) (c .without-lowest .result) (l .inv .0) (c .without-lowest .ensures)
+    let p = t .new .result .index in
+    let m = c .before .before .before .lowest-of in
+    let slot = c .before .before .slot-of .ensures .0 in
+    let h = ap (λ (i : ℕ). sameBytes (keyOf (a .book .now) (a .k) (a .v) i) (a .key .now)) (sym slot) ∙ sym (c .before .holds .ensures) ∙ c .if2 .taken in
+    let k = tried-yes (a .book .now) (a .key .now) (a .k) (a .v) (a .slots) p (q .query-at .result .eq) (m .result) (left-is q) (m .ensures) h in
+    ap (λ (i : ℕ). same i 1) slot
+    ∙ sym (at-start 8 reports (a .book .now) (a .k) (a .v) (a .slots) (a .key .now) ∙ at-same 8 reports (a .book .now) (a .k) (a .v) (a .slots) (a .key .now) (a .slots / 8) 0 p (some-group t) (stands t .0) (m .result) k)
 
-loop-again : tie.Need-loop-again Inv-loop μ-loop Inv-search μ-search
-loop-again c =
-    let l = c .before .before .before .before .before .before .loop in
-    let t = c .before .before .before .before .before .before .before .before in
-    let a = start t .args in (
-      tried-no (a .book .now) (a .key .now) (a .k) (a .v) (a .slots) (t .before .search .ps .index) (l .left) (c .before .before .before .before .lowest-of .result) (c .without-lowest .result)
-          (l .inv .0) (c .before .before .before .before .lowest-of .ensures) (c .without-lowest .ensures) (tried-is (c .before .before) ∙ c .before .if1 .left),
-      l .inv .1,
-    )
-
-first-empty-requires : tie.Need-first-empty-requires Inv-loop μ-loop Inv-search μ-search
+first-empty-requires : tie.Need-first-empty-requires
 first-empty-requires c κs = search needs
 
-enum-known-m : tie.Need-enum-known-m Inv-loop μ-loop Inv-search μ-search
+enum-known-m : tie.Need-enum-known-m
 enum-known-m c = search needs
 
-slot-of-requires-2 : tie.Need-slot-of-requires-2 Inv-loop μ-loop Inv-search μ-search
+slot-of-requires-2 : tie.Need-slot-of-requires-2
 slot-of-requires-2 c κs =
     let t = c .before .before .before .before .before .before .before in
     let a = start t .args in
-    let o = controlAt (a .k) (a .v) (a .slots) (t .before .search .ps .index) in
-    let l = empty-lt (part 8 o (a .book .now)) (c .before .m .given .0 .0) (hole-is c) in
-    (start t .pre .slots, start-is t .1, omega (arith, l, length-part 8 o (a .book .now) (group-is t .1)))
+    let p = t .new .result .index in
+    let l = empty-lt (groupAt 8 (a .book .now) (a .k) (a .v) (a .slots) p) (c .before .m .given .0 .0) (hole-is c) in
+    (start t .pre .slots, stands t .1, omega (arith, l, group-long (a .book .now) (a .key .now) (a .k) (a .v) (a .slots) p (start t .pre) (stands t .1)))
 
-add-t31 : tie.Need-add-t31 Inv-loop μ-loop Inv-search μ-search
-add-t31 c = search needs
+returns-2 : tie.Need-returns-2
+returns-2 c =
+    let t = c .before .before .before .before .before .before .before .before in
+    let a = start t .args in
+    ap (λ (i : ℕ). free i 1) (c .slot-of2 .ensures .0)
+    ∙ sym (at-start 8 reports (a .book .now) (a .k) (a .v) (a .slots) (a .key .now) ∙ at-free 8 reports (a .book .now) (a .k) (a .v) (a .slots) (a .key .now) (a .slots / 8) 0 (t .new .result .index) (some-group t) (stands t .0) (c .before .before .m .given .0 .0) (no-key (c .before .before .before .before .before)) (hole-is (c .before)))
 
-enum-told : tie.Need-enum-told Inv-loop μ-loop Inv-search μ-search
+enum-told : tie.Need-enum-told
 enum-told c = search needs
 
-advance-requires : tie.Need-advance-requires Inv-loop μ-loop Inv-search μ-search
+advance-requires : tie.Need-advance-requires
 advance-requires c κs =
     let t = c .before .before .before .before .before .before in
     let a = start t .args in
-    let b = startOf (a .slots) (a .key .now) in
-    let e = t .before .search .inv .1 in
-    let r = seq-room b (a .slots) (t .before .search .n) (start t .pre .slots) (mod-lt _ (omega (arith, start t .pre .slots .least))) (t .search-test .taken) in
-    (start t .pre .slots, omega (arith, ap (λ (p : ProbeSeq). p .base) e, r .0), omega (arith, ap (λ (p : ProbeSeq). p .chunk) e, r .1), omega (arith, ap (λ (p : ProbeSeq). p .stride) e, r .2))
+    let s = start t .pre .slots in
+    seq-room (startOf (a .slots) (a .key .now)) (a .slots) 0 (t .new .result) (begun t) s (mod-lt _ (omega (arith, s .least))) (some-group t)
 
-add-n : tie.Need-add-n Inv-loop μ-loop Inv-search μ-search
-add-n c = let t = c .before .before .before .before .before .before .before in omega (arith, t .search-test .taken, start t .pre .slots .most)
+search-from-requires : tie.Need-search-from-requires
+search-from-requires c κs = let t = c .before .before .before in let j = joined c in (start t .pre, tag-is t, j .0, j .1)
 
-search-less : tie.Need-search-less Inv-loop μ-loop Inv-search μ-search
-search-less c = search needs
-
-search-again : tie.Need-search-again Inv-loop μ-loop Inv-search μ-search
-search-again c =
-    let t = c .before .before .before .before .before .before .before in
-    let a = start t .args in
-    let l = t .before .search in
-    let b = startOf (a .slots) (a .key .now) in (
-      omega (arith, t .search-test .taken),
-      c .advance .ensures b (l .n) (l .inv .1) ∙ ap (seqAt b (a .slots)) (sym (add-one (l .n))),
-      c .before .before .before .before .before .loop .inv .1 ∙ l .inv .2,
-      l .inv .3 ∙ at-next 8 reports (a .book .now) (a .k) (a .v) (a .slots) (a .key .now) (a .slots / 8) (l .n) (l .ps .index) (t .search-test .taken) (start-is t .0) (no-key (c .before .before .before .before))
-          (sym (empty-is (c .before .before .before)) ∙ ap saidFirst (c .before .enum-told .given .1)),
-    )
-
-returns : tie.Need-returns Inv-loop μ-loop Inv-search μ-search
-returns c =
-    let a = c .before .before .before .before .before .before .before .before .before .args in
-    let l = c .before .search in
-    ap saidSpot (l .inv .2) ∙ ap full (omega arith)
-    ∙ sym (l .inv .3 ∙ at-end 8 reports (a .book .now) (a .k) (a .v) (a .slots) (a .key .now) (a .slots / 8) (l .n) (omega arith))
-
-returns-2 : tie.Need-returns-2 Inv-loop μ-loop Inv-search μ-search
-returns-2 c =
-    let t = c .before .before .before .before .before .before .before in
-    let a = start t .args in
-    let l = t .before .search in
-    let o = c .before .before .before .before .before .loop in
-    let m = c .before .before .before .lowest-of in
-    let k = tried-yes (a .book .now) (a .key .now) (a .k) (a .v) (a .slots) (l .ps .index) (o .left) (m .result) (o .inv .0) (m .ensures) (tried-is (c .before) ∙ c .if1 .taken) in
-    ap (λ (i : ℕ). same i (l .n + 1)) (c .before .before .slot-of .ensures .0)
-    ∙ sym (l .inv .3 ∙ at-same 8 reports (a .book .now) (a .k) (a .v) (a .slots) (a .key .now) (a .slots / 8) (l .n) (l .ps .index) (t .search-test .taken) (start-is t .0) (m .result) k)
-
-returns-3 : tie.Need-returns-3 Inv-loop μ-loop Inv-search μ-search
-returns-3 c =
-    let t = c .before .before .before .before .before .before .before .before in
-    let a = start t .args in
-    let l = t .before .search in
-    ap (λ (i : ℕ). free i (l .n + 1)) (c .slot-of2 .ensures .0)
-    ∙ sym (l .inv .3 ∙ at-free 8 reports (a .book .now) (a .k) (a .v) (a .slots) (a .key .now) (a .slots / 8) (l .n) (l .ps .index) (t .search-test .taken) (start-is t .0) (c .before .before .m .given .0 .0) (no-key (c .before .before .before .before .before)) (hole-is (c .before)))
+returns-3 : tie.Need-returns-3
+returns-3 c = c .search-from .ensures ∙ sym (joined (c .before) .2)
 
 pub search-spec : {M : Type 1} → statement M
 search-spec =
     tie.close
     (tie.spec
-    Inv-loop
-    μ-loop
-    Inv-search
-    μ-search
     hash-requires
     h2-requires
-    control-offset-requires
     h1-requires
     new-requires
-    search-holds
-    add-from
-    from-requires
-    loop-holds
+    query-at-requires
     lowest-of-requires
     slot-of-requires
     holds-requires
-    add-t27
-    without-lowest-requires
-    loop-less
-    loop-again
+    returns
     first-empty-requires
     enum-known-m
     slot-of-requires-2
-    add-t31
+    returns-2
     enum-told
     advance-requires
-    add-n
-    search-less
-    search-again
-    returns
-    returns-2
+    search-from-requires
     returns-3)
