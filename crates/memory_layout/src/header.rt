@@ -1,6 +1,6 @@
 // Rows 1 to 10, which every call on a book tests first. Inside, a row is its number, and 0 is none.
 ghost use mathlib.Core.Path.{_≡_};
-ghost use mathlib.Core.Bool.{true, cond, not};
+ghost use mathlib.Core.Bool.{true, false, cond, not};
 ghost use mathlib.Core.Option.{none, some};
 ghost use Prim.Native.Nat.{_+_, _≤_, _<_};
 ghost use lib.Dec.{eqb};
@@ -103,27 +103,23 @@ fn stated_row(book: &[u8], k: usize, v: usize) -> usize
     row_if(word_not(book, 0, HEADER_TAG), 3, row)
 }
 
-// The rows one by one: what a header that is not sound is refused for.
-fn header_rows(book: &[u8], k: usize, v: usize) -> Header
-    ensures { λ r. ⌜ saidHeader r ≡ checked (now (book .entry)) k v ⌝ }
+// The first of rows 1 to 10 that applies.
+fn header_row(book: &[u8], k: usize, v: usize) -> usize
+    ensures { λ r. ⌜ numbered r ≡ firstSome (headerRows (now (book .entry)) k v) ⌝ }
 {
     if !are_sizes(k, v) {
-        return Header::Refused(refusal::of_row(1));
+        return 1;
     }
     if book.len() < 32 {
-        return Header::Refused(refusal::of_row(2));
+        return 2;
     }
-    let row = stated_row(book, k, v);
-    if row != 0 {
-        return Header::Refused(refusal::of_row(row));
-    }
-    Header::Slots(fxhash::read_u64(book, 16) as usize)
+    stated_row(book, k, v)
 }
 
-// Whether no row applies to a book that has a whole header, without asking which. A size that the header states is a byte, so it is none above 255. `false` leaves it to the rows.
+// Whether no row applies to a book that has a whole header, without asking which. A size that the header states is a byte, so it is none above 255.
 fn passes(book: &[u8], k: usize, v: usize) -> bool
     requires { ⌜ 32 ≤ length (now book) ⌝ }
-    ensures { λ r. ⌜ (r ≡ true → firstSome (headerRows (now (book .entry)) k v) ≡ none) ⌝ }
+    ensures { λ r. ⌜ (r ≡ true → firstSome (headerRows (now (book .entry)) k v) ≡ none) × (r ≡ false → firstSome (headerRows (now (book .entry)) k v) ≡ none → ⊥) ⌝ }
 {
     if (k == 0) | byte_not(book, 5, k) | byte_not(book, 6, v) {
         return false;
@@ -141,7 +137,7 @@ fn passes(book: &[u8], k: usize, v: usize) -> bool
     book.len() == kinds::total(k, v, slots as usize)
 }
 
-// Every call begins with this, so a sound header is told first, and cheaply.
+// Every call begins with this, so a sound header is told first, and cheaply. Of any other the rows say what is wrong.
 pub fn check_header(book: &[u8], k: usize, v: usize) -> Header
     ensures { λ r. ⌜ saidHeader r ≡ checked (now (book .entry)) k v ⌝ }
 {
@@ -150,5 +146,5 @@ pub fn check_header(book: &[u8], k: usize, v: usize) -> Header
             return Header::Slots(fxhash::read_u64(book, 16) as usize);
         }
     }
-    header_rows(book, k, v)
+    Header::Refused(refusal::of_row(header_row(book, k, v)))
 }
