@@ -34,7 +34,9 @@ fn watch(root: &Path) {
     for source in ["crates", "crates.txt", "rattle-kit", "tools/library"] {
         println!("cargo:rerun-if-changed={}", root.join(source).display());
     }
-    println!("cargo:rerun-if-env-changed=TALLY_LIBRARY");
+    for variable in ["TALLY_LIBRARY", "TALLY_PROCESSOR"] {
+        println!("cargo:rerun-if-env-changed={variable}");
+    }
 }
 
 /// Runs the script; its last line names the archive, and what it says besides goes to the reader.
