@@ -135,6 +135,7 @@ fn hash_32(bytes: &[u8]) -> u32
     low(add_to_hash(third, read_u64(bytes, 24)))
 }
 
+// Eight bytes are asked for first and apart: three `==` in a row the compiler would ask in an order of its own.
 pub fn hash(bytes: &[u8]) -> u32
     ensures { λ r. ⌜ r ≡ hashOf (now (bytes .entry)) ⌝ }
 {

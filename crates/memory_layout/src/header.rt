@@ -138,6 +138,7 @@ fn passes(book: &[u8], k: usize, v: usize) -> bool
 }
 
 // Every call begins with this, so a sound header is told first, and cheaply. Of any other the rows say what is wrong.
+// Here and in `is_slot_count` a test asks for what is usual, since the compiler lets that go straight on.
 pub fn check_header(book: &[u8], k: usize, v: usize) -> Header
     ensures { λ r. ⌜ saidHeader r ≡ checked (now (book .entry)) k v ⌝ }
 {

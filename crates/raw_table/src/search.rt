@@ -46,7 +46,7 @@ fn same_few(a: &[u8], b: &[u8]) -> bool
     true
 }
 
-// Whether two keys have the same bytes. The last word overlaps what was compared before it, so that no bytes are left over.
+// Whether two keys have the same bytes. Of one word there is no loop; of more the last overlaps what was compared before it, so that no bytes are left over.
 pub fn equals(a: &[u8], b: &[u8]) -> bool
     ensures { λ r. ⌜ r ≡ sameBytes (now (a .entry)) (now (b .entry)) ⌝ }
 {
