@@ -1,4 +1,6 @@
 // The whole-book check: after the header's rows those of each slot, of the mirrors, of keys that stand twice, and of keys out of reach.
+#![tactic(auto)]
+
 ghost use Rattle.std.specs.Prelude.{◌≡◌};
 ghost use Rattle.rules.specs.Bounds.{Passed};
 ghost use Rattle.rules.specs.First.{first_some};

@@ -1,4 +1,6 @@
 // Answers a list of calls: one a line from standard input, one answer a line to standard output.
+#![tactic(auto)]
+
 mod serve;
 
 fn main() {

@@ -1,5 +1,7 @@
 // The calls for Rust or C. A slice is a pointer and a length, and an answer is eight numbers: outcome, row, slot, expected, found, count, offset, length.
 // Each returns 0, or 1 where the length of `answer` is not 8, and then nothing was done. Find and insert, the hot ones, are crates of their own.
+#![tactic(auto)]
+
 ghost use Rattle.std.specs.Prelude.{◌≡◌};
 ghost use Rattle.rules.specs.Calls.{init_answer, init_book, open_answer, find_answer, next_answer};
 ghost use Rattle.rules.specs.Check.{check_answer};

@@ -1,5 +1,7 @@
 // Find for Rust or C. A crate of its own:
 // compiled by itself, it is the only caller of the search, which the compiler then puts in its place.
+#![tactic(auto)]
+
 ghost use Rattle.std.specs.Prelude.{◌≡◌};
 ghost use Rattle.rules.specs.Calls.{find_answer};
 ghost use Rattle.exports.specs.Numbers.{numbers, returned, holds};

@@ -1,4 +1,6 @@
 // The hash of rustc-hash over the bytes of a key, and the little-endian reads that it is made of.
+#![tactic(auto)]
+
 ghost use Rattle.std.specs.Prelude.{◌≡◌, ◌+◌, ◌*◌, ◌%◌, ◌^◌, ◌<◌, ◌≤◌, length};
 ghost use Rattle.rules.specs.Bytes.{le, part};
 ghost use Rattle.rules.specs.Hash.{rotate5, mixed, hash_of, tag};

@@ -1,4 +1,6 @@
 // The query over a group of eight control bytes, by the bit trick of hashbrown's portable group.
+#![tactic(auto)]
+
 ghost use Rattle.std.specs.Prelude.{◌≡◌, ℕ, ◌+◌, ◌/◌, ◌^◌, ◌<◌, ◌≤◌, Bool, List, ◌∷◌, length, replicate};
 ghost use Rattle.std.specs.Int.Count.{count_trailing_zeros};
 ghost use Rattle.rules.specs.Bytes.{le, part};

@@ -1,4 +1,6 @@
 // The bytes of a book: the kinds of number that count in it, its refusals, the check of its header, and a new one.
+#![tactic(auto)]
+
 pub mod header;
 pub mod init;
 pub mod kinds;

@@ -1,1 +1,2 @@
 // The written rules. This crate has no code: specs/ has the definitions, proofs/ their laws.
+#![tactic(auto)]
