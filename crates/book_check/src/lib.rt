@@ -20,7 +20,7 @@ pub mod reach;
 pub mod slot;
 pub mod twin;
 
-#[derive(Drop)]
+#[derive(Clone, Copy)]
 pub enum Verdict {
     Fine,
     Refused(Refusal),

@@ -10,13 +10,13 @@ ghost use Rattle.rules.specs.Group.{reports, positions, first_empty};
 ghost use Rattle.group_query.specs.Marks.{word, empties, others, said_first};
 
 // The reported positions and the empty ones, each as a mask: bit 0x80 of byte m for position m.
-#[derive(Drop)]
+#[derive(Clone, Copy)]
 pub struct GroupQuery {
     pub eq: u64,
     pub empty: u64,
 }
 
-#[derive(Drop)]
+#[derive(Clone, Copy)]
 pub enum First {
     At(usize),
     Nothing,

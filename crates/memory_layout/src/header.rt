@@ -12,7 +12,7 @@ ghost use Rattle.memory_layout.specs.Said.{said_header};
 use crate::refusal::Refusal;
 use crate::{kinds, refusal};
 
-#[derive(Drop)]
+#[derive(Clone, Copy)]
 pub enum Header {
     Slots(usize),
     Refused(Refusal),

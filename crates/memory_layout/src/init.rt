@@ -12,7 +12,7 @@ use crate::parts::{fill, put};
 use crate::refusal;
 use crate::refusal::Refusal;
 
-#[derive(Drop)]
+#[derive(Clone, Copy)]
 pub enum Made {
     Fine,
     Refused(Refusal),

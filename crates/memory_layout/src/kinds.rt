@@ -5,15 +5,15 @@ ghost use Rattle.rules.specs.Layout.{entry_at, value_at, control_at, total};
 ghost use Rattle.rules.specs.Probe.{slot_of};
 
 // A slot number.
-#[derive(Drop)]
+#[derive(Clone, Copy)]
 pub struct Slot(pub usize);
 
 // A control position: one for each slot, then sixteen mirrors.
-#[derive(Drop)]
+#[derive(Clone, Copy)]
 pub struct Position(pub usize);
 
 // A byte offset into the book.
-#[derive(Drop)]
+#[derive(Clone, Copy)]
 pub struct Offset(pub usize);
 
 // The remainder by a slot count, without dividing.

@@ -5,7 +5,7 @@ ghost use Rattle.memory_layout.specs.Said.{said_refusal};
 
 use crate::kinds::Slot;
 
-#[derive(Drop)]
+#[derive(Clone, Copy)]
 pub struct Refusal {
     pub row: usize,
     pub slot: usize,

@@ -12,7 +12,7 @@ use memory_layout::kinds::Slot;
 use memory_layout::refusal::Refusal;
 
 // An occupied slot with its control byte, or that there is none.
-#[derive(Drop)]
+#[derive(Clone, Copy)]
 pub enum Next {
     At(Slot, u8),
     Done,
@@ -56,7 +56,7 @@ fn place_after(answer: Next, at: usize) -> usize
     }
 }
 
-#[derive(Drop)]
+#[derive(Clone, Copy)]
 pub struct RawIter<'a> {
     pub table: &'a [u8],
     pub k: usize,
@@ -65,14 +65,14 @@ pub struct RawIter<'a> {
 }
 
 // An answer, and the walk after it.
-#[derive(Drop)]
+#[derive(Clone, Copy)]
 pub struct Stepped<'a> {
     pub answer: Next,
     pub walk: RawIter<'a>,
 }
 
 // The same without the table.
-#[derive(Drop)]
+#[derive(Clone, Copy)]
 pub struct Moved {
     pub answer: Next,
     pub next: usize,

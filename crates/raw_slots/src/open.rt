@@ -14,13 +14,13 @@ use memory_layout::kinds::{Slot, entry_offset};
 use memory_layout::refusal::{Refusal, fault_at, wrong_tag};
 
 // The first row of 11 and 12 that applies, if one does.
-#[derive(Drop)]
+#[derive(Clone, Copy)]
 pub enum Fault {
     Nothing,
     Found(Refusal),
 }
 
-#[derive(Drop)]
+#[derive(Clone, Copy)]
 pub enum Opened {
     Fine,
     Refused(Refusal),

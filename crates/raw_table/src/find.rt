@@ -8,7 +8,7 @@ use memory_layout::header::{Header, check_header};
 use memory_layout::kinds::{Slot, value_offset};
 use memory_layout::refusal::{Refusal, of_row};
 
-#[derive(Drop)]
+#[derive(Clone, Copy)]
 pub enum Found {
     At(Slot, usize),
     Absent(usize),

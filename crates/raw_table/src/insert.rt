@@ -14,7 +14,7 @@ use memory_layout::kinds::{
 };
 use memory_layout::refusal::{Refusal, no_end, of_row};
 
-#[derive(Drop)]
+#[derive(Clone, Copy)]
 pub enum Inserted {
     New(Slot, usize),
     Replaced(Slot, usize),

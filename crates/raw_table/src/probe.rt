@@ -6,7 +6,7 @@ ghost use Rattle.raw_table.specs.Seq.{seq_at};
 use memory_layout::kinds::wrap;
 
 // Where a search stands: the next group starts at `index`. Probing goes by pairs of groups, as with groups of sixteen.
-#[derive(Drop)]
+#[derive(Clone, Copy)]
 pub struct ProbeSeq {
     pub index: usize,
     pub base: usize,

@@ -15,7 +15,7 @@ use group_query::{First, GroupQuery, lowest_of, without_lowest};
 use memory_layout::kinds::{Position, Slot, control_offset, entry_offset, slot_of};
 
 // Where a search ends, with the number of groups examined.
-#[derive(Drop)]
+#[derive(Clone, Copy)]
 pub enum Spot {
     Same(Slot, usize),
     Free(Slot, usize),

@@ -1,0 +1,7 @@
+-- A mask of the slot count less one is the remainder: the law `mask_mod`. Assumes nothing.
+use borrow.Author.Rules.{rules}
+use Rattle.rules.proofs.LayoutLaws.{mask_mod}
+use Rattle.memory_layout.proofs.kinds.wrap.Goals as goal
+
+pub returns : goal.returns
+returns c = mask_mod c.args.slots c.requires c.args.x
