@@ -46,7 +46,7 @@ pub fn next_occupied(book: &[u8], k: usize, v: usize, from: usize) -> Next
 
 // Where a walk that stood at `at` stands after an answer.
 fn place_after(answer: Next, at: usize) -> usize
-    requires { moved_to at (said_next answer) < 2 ^ 64 }
+    requires { at < 2 ^ 64 → moved_to at (said_next answer) < 2 ^ 64 }
     ensures { result ≡ moved_to at (said_next answer) }
 {
     match answer {

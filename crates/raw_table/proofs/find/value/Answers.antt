@@ -1,0 +1,62 @@
+-- The part is the value of the slot that find answered; where find has no slot, the rule's part is empty too.
+use borrow.Author.Rules.{rules}
+use mathlib.Core.Path.{◌≡◌, sym, ap, ap₂, ◌∙◌}
+use mathlib.Core.List.{[]}
+use Prim.Native.Nat.{ℕ, ◌+◌, ◌-◌, ◌^◌, ◌≤◌, ◌<◌}
+use native.Mathlib.Omega.{arith}
+use lib.ListN.{length, take, drop}
+use Rattle.rules.specs.Bounds.{Passed}
+use Rattle.rules.specs.Layout.{slot_count, value_at}
+use Rattle.rules.specs.Calls.{at_slot, find_answer, value_part}
+use Rattle.rules.proofs.TestLaws.{impossible}
+use Rattle.rules.proofs.RowLaws.{inside}
+use Rattle.rules.proofs.CallLaws.{at_passed, value_at_slot, value_empty}
+use Rattle.raw_table.specs.declared.find.Found.{Found}
+use Rattle.raw_table.specs.Said.{said_found}
+use Rattle.raw_table.proofs.find.value.Goals as goal
+use Rattle.raw_table.proofs.find.value.Goals.{After-value_offset-at, In-At}
+
+found : (c : In-At)
+    → find_answer c.args.book.now c.args.k c.args.v c.args.key.now ≡ at_slot c.in-At.slot.0 c.in-At.field-1
+found c = sym c.find.ensures ∙ ap said_found c.in-At.is
+
+at : (c : In-At)
+    → Passed c.args.book.now c.args.k c.args.v (slot_count c.args.book.now) × (c.in-At.slot.0 < slot_count c.args.book.now)
+at c = let a = c.args in at_passed a.book.now a.k a.v a.key.now c.in-At.slot.0 c.in-At.field-1 (found c)
+
+value_in : (c : After-value_offset-at)
+    → (c.value_offset-at.result.0 + c.args.v ≤ length c.args.book.now)
+    × (length c.args.book.now < 2 ^ 29)
+value_in c =
+    let a = c.args in
+    let i = inside a.book.now a.k a.v (slot_count a.book.now) c.in-At.slot.0 (at (goal.at.After-value_offset-at c).In-At).0 (at (goal.at.After-value_offset-at c).In-At).1 in
+    (omega (arith, i.0, c.value_offset-at.ensures), i.1)
+
+pub value_offset-at-requires : goal.value_offset-at-requires
+value_offset-at-requires c = let p = at c in (p.0.sizes, omega (arith, p.1, p.0.slots.most))
+
+pub overflow_add-end : goal.overflow_add-end
+overflow_add-end c = omega (arith, (value_in c).0, (value_in c).1)
+
+pub slice_bounds-result-end : goal.slice_bounds-result-end
+slice_bounds-result-end c = omega (arith, (value_in c).0)
+
+pub returns-in-At : goal.returns-in-At
+returns-in-At c =
+    let a = c.args in
+    let o = c.value_offset-at in
+    let n : o.result.0 + a.v - o.result.0 ≡ a.v = omega arith in
+    ap₂ (λ (m at : ℕ). take m (drop at a.book.now)) n o.ensures
+    ∙ sym (value_at_slot a.book.now a.k a.v a.key.now c.in-At.slot.0 c.in-At.field-1 (found (goal.at.returns-in-At c).In-At))
+
+pub returns-in-Absent : goal.returns-in-Absent
+returns-in-Absent c =
+    let a = c.args in
+    sym (value_empty a.book.now a.k a.v a.key.now
+    (λ i n e. let z = sym (ap said_found c.in-Absent.is) ∙ c.find.ensures ∙ e in impossible cc))
+
+pub returns-in-Refused : goal.returns-in-Refused
+returns-in-Refused c =
+    let a = c.args in
+    sym (value_empty a.book.now a.k a.v a.key.now
+    (λ i n e. let z = sym (ap said_found c.in-Refused.is) ∙ c.find.ensures ∙ e in impossible cc))

@@ -1,0 +1,16 @@
+-- The invariant: what is to be written from i on, over what is there now, makes the whole.
+use borrow.Author.Rules.{rules}
+use mathlib.Core.Path.{◌≡◌, refl, sym, ◌∙◌}
+use Prim.Native.Nat.{◌+◌, ◌-◌, ◌≤◌}
+use native.Mathlib.Nat.{add-zero}
+use native.Mathlib.Omega.{arith}
+use lib.ListN.{length, drop, length-set}
+use lib.Seq.{sets}
+use Rattle.raw_table.proofs.WriteLaws.{sets_step, sets_end}
+use Rattle.raw_table.proofs.insert.overwrite.Given as goal
+
+abbrev pub invariant-loop-i : goal.invariant-loop-i
+invariant-loop-i l = (l.i ≤ length l.src) × (length l.dst ≡ length l.initial.dst) × (sets l.initial.dst l.at l.src ≡ sets l.dst (l.at + l.i) (drop l.i l.src))
+
+abbrev pub decreases-loop-i : goal.decreases-loop-i
+decreases-loop-i l = length l.src - l.i

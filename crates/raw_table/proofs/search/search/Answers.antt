@@ -1,0 +1,130 @@
+-- The first group decides, or the whole is what the rest gives: after its first candidate it is examined again, and where it has none it is left behind.
+-- Assumes nothing.
+use borrow.Author.Rules.{rules}
+use mathlib.Core.Path.{◌≡◌, sym, ap, ◌∙◌}
+use mathlib.Core.Option.{none, some}
+use mathlib.Core.Logic.{⊎_elim}
+use Prim.Native.Nat.{ℕ, ◌+◌, ◌/◌, ◌%◌, ◌≤◌, ◌<◌}
+use native.Mathlib.Nat.{mod-lt}
+use native.Mathlib.Omega.{arith}
+use Rattle.rules.specs.Bytes.{same_bytes}
+use Rattle.rules.specs.Layout.{key_of}
+use Rattle.rules.specs.Hash.{tag, tag_of, start_of}
+use Rattle.rules.specs.Group.{reports, first_empty}
+use Rattle.rules.specs.Probe.{group_start}
+use Rattle.rules.specs.Search.{group_at, equal_key, same, free, spot_of}
+use Rattle.rules.proofs.GroupLaws.{empty_lt}
+use Rattle.rules.proofs.SearchLaws.{Rest, at_start, at_same, at_free, at_next}
+use Rattle.group_query.specs.Marks.{word, said_first}
+use Rattle.raw_table.specs.Seq.{seq_at}
+use Rattle.raw_table.proofs.SeqLaws.{seq_stands, seq_room}
+use Rattle.raw_table.proofs.TurnLaws.{Left, group_long, all_left, none_left, lowest_lt, tried_yes}
+use Rattle.raw_table.proofs.search.search.Goals as goal
+use Rattle.raw_table.proofs.search.search.Goals.{After-first_empty, After-new-ps, After-query_at-query, Else-query-ne0, In-At, Joined-query-ne0, else-query-ne0, then-query-ne0}
+
+-- the probe before its first group, and where that starts
+begun : (c : After-new-ps) → c.new-ps.result ≡ seq_at (start_of c.args.slots c.args.key.now) c.args.slots 0
+begun c =
+    let S = c.args.slots in
+    c.new-ps.ensures ∙ ap (λ (h : ℕ). seq_at (h % S) S 0) (c.h1.ensures.0 ∙ c.hash-hash.ensures)
+
+stands : (c : After-new-ps)
+    → (c.new-ps.result.index ≡ group_start 8 (start_of c.args.slots c.args.key.now) c.args.slots 0) × (c.new-ps.result.index < c.args.slots)
+stands c = let a = c.args in seq_stands (start_of a.slots a.key.now) a.slots 0 c.new-ps.result (begun c) c.requires.slots
+
+some_group : (c : After-new-ps) → 0 < c.args.slots / 8
+some_group c = omega (arith, c.requires.slots.least)
+
+tag_is : (c : After-new-ps) → c.h2-h2.result ≡ tag_of c.args.key.now
+tag_is c = c.h2-h2.ensures.0 ∙ ap tag c.hash-hash.ensures
+
+-- the candidates, all of which are still to be tried
+left_is : (c : After-query_at-query) → Left c.args.book.now c.args.key.now c.args.k c.args.v c.args.slots c.new-ps.result.index c.query_at-query.result.eq
+left_is c =
+    let a = c.args in
+    let p = c.new-ps.result.index in
+    all_left a.book.now a.key.now a.k a.v a.slots p c.requires (stands (goal.at.After-query_at-query c).After-new-ps).1 c.query_at-query.result.eq
+    (c.query_at-query.ensures.0 ∙ ap (λ (h : ℕ). word (reports h (group_at 8 a.book.now a.k a.v a.slots p))) (tag_is (goal.at.After-query_at-query c).After-new-ps))
+
+-- there is none
+no_key : (c : Else-query-ne0) → equal_key 8 reports c.args.book.now c.args.k c.args.v c.args.slots c.args.key.now c.new-ps.result.index ≡ none
+no_key c =
+    let a = c.args in
+    none_left a.book.now a.key.now a.k a.v a.slots c.new-ps.result.index c.query_at-query.result.eq (left_is (goal.at.Else-query-ne0 c).After-query_at-query) c.if-query-ne0.false
+
+-- what the query says of the group's empty positions
+empty_is : (c : After-first_empty)
+    → said_first c.first_empty.result ≡ first_empty (group_at 8 c.args.book.now c.args.k c.args.v c.args.slots c.new-ps.result.index)
+empty_is c =
+    let a = c.args in
+    let p = c.new-ps.result.index in
+    c.first_empty.ensures (group_at 8 a.book.now a.k a.v a.slots p) (group_long a.book.now a.key.now a.k a.v a.slots p c.requires (stands (goal.at.After-first_empty c).After-new-ps).1) c.query_at-query.ensures.1
+
+-- the first empty position, where the query tells one
+hole_is : (c : In-At)
+    → first_empty (group_at 8 c.args.book.now c.args.k c.args.v c.args.slots c.new-ps.result.index) ≡ some c.in-At.m
+hole_is c = sym (empty_is (goal.at.In-At c).After-first_empty) ∙ ap said_first c.in-At.is
+
+-- where the ways past the first group meet, the rest of the search is still to come
+joined : (c : Joined-query-ne0)
+    → (c.if-query-ne0.n ≤ c.args.slots / 8)
+    × (c.if-query-ne0.ps ≡ seq_at (start_of c.args.slots c.args.key.now) c.args.slots c.if-query-ne0.n)
+    × (spot_of c.args.book.now c.args.k c.args.v c.args.slots c.args.key.now
+    ≡ Rest 8 reports c.args.book.now c.args.k c.args.v c.args.slots c.args.key.now (c.args.slots / 8) c.if-query-ne0.n)
+joined c =
+    let a = c.args in
+    let b = start_of a.slots a.key.now in
+    let whole = at_start 8 reports a.book.now a.k a.v a.slots a.key.now in
+    elim c.if-query-ne0.branch [
+      | then-query-ne0 w ↦ (omega arith, rw (w.5, w.6) (begun (goal.at.Joined-query-ne0 c).After-new-ps), rw w.6 whole)
+      | else-query-ne0 w ↦ let e : tie.After-first-empty = record { before = record { before = c.before; if1 = w.0 }; first-empty = w.1 } in (
+        omega (arith, some_group (goal.at.Joined-query-ne0 c).After-new-ps),
+        rw (w.5, w.6) (w.4.ensures b 0 (begun (goal.at.Joined-query-ne0 c).After-new-ps)),
+        rw w.6 (whole ∙ at_next 8 reports a.book.now a.k a.v a.slots a.key.now (a.slots / 8) 0 c.new-ps.result.index (some_group (goal.at.Joined-query-ne0 c).After-new-ps) (stands (goal.at.Joined-query-ne0 c).After-new-ps).0 (no_key e.before) (sym (empty-is e) ∙ ap said_first w.3.given.1)),
+      )
+    ]
+
+pub query_at-query-requires : goal.query_at-query-requires
+query_at-query-requires c = (c.requires, (stands c).1)
+
+pub slot_of-slot-requires : goal.slot_of-slot-requires
+slot_of-slot-requires c =
+    let a = c.args in
+    let l = lowest_lt a.book.now a.key.now a.k a.v a.slots c.new-ps.result.index c.query_at-query.result.eq c.lowest_of.result (left_is (goal.at.slot_of-slot-requires c).After-query_at-query) c.lowest_of.ensures in
+    (c.requires.slots, (stands (goal.at.slot_of-slot-requires c).After-new-ps).1, omega (arith, l))
+
+pub returns-then-holds : goal.returns-then-holds
+returns-then-holds c =
+    let a = c.args in
+    let p = c.new-ps.result.index in
+    let m = c.lowest_of in
+    let slot = c.slot_of-slot.ensures.0 in
+    let h = ap (λ (i : ℕ). same_bytes (key_of a.book.now a.k a.v i) a.key.now) (sym slot) ∙ sym c.holds.ensures ∙ c.if-holds.true in
+    let k = tried_yes a.book.now a.key.now a.k a.v a.slots p c.query_at-query.result.eq m.result (left_is (goal.at.returns-then-holds c).After-query_at-query) m.ensures h in
+    ap (λ (i : ℕ). same i 1) slot
+    ∙ sym (at_start 8 reports a.book.now a.k a.v a.slots a.key.now ∙ at_same 8 reports a.book.now a.k a.v a.slots a.key.now (a.slots / 8) 0 p (some_group (goal.at.returns-then-holds c).After-new-ps) (stands (goal.at.returns-then-holds c).After-new-ps).0 m.result k)
+
+pub slot_of-requires : goal.slot_of-requires
+slot_of-requires c =
+    let a = c.args in
+    let p = c.new-ps.result.index in
+    let l = empty_lt (group_at 8 a.book.now a.k a.v a.slots p) c.in-At.m (hole_is c) in
+    (c.requires.slots, (stands (goal.at.slot_of-requires c).After-new-ps).1, omega (arith, l, group_long a.book.now a.key.now a.k a.v a.slots p c.requires (stands (goal.at.slot_of-requires c).After-new-ps).1))
+
+pub returns-in-At : goal.returns-in-At
+returns-in-At c =
+    let a = c.args in
+    ap (λ (i : ℕ). free i 1) c.slot_of.ensures.0
+    ∙ sym (at_start 8 reports a.book.now a.k a.v a.slots a.key.now ∙ at_free 8 reports a.book.now a.k a.v a.slots a.key.now (a.slots / 8) 0 c.new-ps.result.index (some_group (goal.at.returns-in-At c).After-new-ps) (stands (goal.at.returns-in-At c).After-new-ps).0 c.in-At.m (no_key (goal.at.returns-in-At c).Else-query-ne0) (hole_is (goal.at.returns-in-At c).In-At))
+
+pub advance-ps-requires : goal.advance-ps-requires
+advance-ps-requires c =
+    let a = c.args in
+    let s = c.requires.slots in
+    seq_room (start_of a.slots a.key.now) a.slots 0 c.new-ps.result (begun (goal.at.advance-ps-requires c).After-new-ps) s (mod-lt _ (omega (arith, s.least))) (some_group (goal.at.advance-ps-requires c).After-new-ps)
+
+pub search_from-requires : goal.search_from-requires
+search_from-requires c = let j = joined c in (c.requires, tag_is (goal.at.search_from-requires c).After-new-ps, j.0, j.1)
+
+pub returns : goal.returns
+returns c = c.search_from.ensures ∙ sym (joined (goal.at.returns c).Joined-query-ne0).2
