@@ -76,7 +76,7 @@ returns-then-key-k c =
     let a = c.args in
     let w = not-true _ (sym (nots (eqb (length a.key.now) a.k) (eqb (length a.value.now) a.v) (eqb (length a.old.now) a.v)) ∙ c.if-key-k.true) in
     let r = insert_refused a.book.now a.k a.v a.key.now a.value.now a.old.now _ (insert_length a.book.now a.k a.v a.key.now a.value.now a.old.now (checks (goal.at.returns-then-key-k c).In-Slots).rows w) in
-    (ap refused c.of_row.ensures ∙ sym r.0, (sym r.1, sym r.2))
+    record { answered = ap refused c.of_row.ensures ∙ sym r.0; book_after = sym r.1; old_after = sym r.2 }
 
 pub search-requires : goal.search-requires
 search-requires c = (checks (goal.at.search-requires c).In-Slots).passed
@@ -99,7 +99,7 @@ returns-in-Refused c =
     let a = c.args in
     let f = refused_fails a.book.now a.k a.v h.result h.ensures c.in-Refused.refusal c.in-Refused.is in
     let r = insert_refused a.book.now a.k a.v a.key.now a.value.now a.old.now _ (insert_header a.book.now a.k a.v a.key.now a.value.now a.old.now _ f) in
-    (sym r.0, (sym r.1, sym r.2))
+    record { answered = sym r.0; book_after = sym r.1; old_after = sym r.2 }
 
 pub returns-in-Same : goal.returns-in-Same
 unfolding insert_says written old_value
@@ -107,13 +107,11 @@ returns-in-Same c =
     let a = c.args in
     let s = c.in-Same.slot.0 in
     let w = insert_answer_says a.book.now a.k a.v a.key.now a.value.now a.old.now (Rule.same s c.in-Same.n) (passes (goal.at.returns-in-Same c).Else-key-k) (ends (goal.at.returns-in-Same c).After-search ∙ ap said_spot c.in-Same.is) in
-    let r = c.replace.ensures in (
-      sym w.0,
-      (
-        r.0 ∙ ap (λ (n : ℕ). sets a.book.now (value_at a.k n s) a.value.now) (sized (goal.at.returns-in-Same c).Else-key-k).1 ∙ sym w.1,
-        r.1 ∙ ap (λ (n : ℕ). take n (drop (value_at a.k n s) a.book.now)) (sized (goal.at.returns-in-Same c).Else-key-k).1 ∙ sym w.2,
-      ),
-    )
+    let r = c.replace.ensures in record {
+      answered = sym w.0;
+      book_after = r.book_after ∙ ap (λ (n : ℕ). sets a.book.now (value_at a.k n s) a.value.now) (sized (goal.at.returns-in-Same c).Else-key-k).1 ∙ sym w.1;
+      old_after = r.old_after ∙ ap (λ (n : ℕ). take n (drop (value_at a.k n s) a.book.now)) (sized (goal.at.returns-in-Same c).Else-key-k).1 ∙ sym w.2;
+    }
 
 pub returns-in-Free : goal.returns-in-Free
 unfolding insert_says written old_value
@@ -121,20 +119,18 @@ returns-in-Free c =
     let a = c.args in
     let s = c.in-Free.slot.0 in
     let w = insert_answer_says a.book.now a.k a.v a.key.now a.value.now a.old.now (Rule.free s c.in-Free.n) (passes (goal.at.returns-in-Free c).Else-key-k) (ends (goal.at.returns-in-Free c).After-search ∙ ap said_spot c.in-Free.is) in
-    let S = c.in-Slots.slots in (
-      sym w.0,
-      (
-        c.write_new.ensures
-            ∙ ap₂ (λ (m n : ℕ). set_control (sets a.book.now (entry_at m n s) (a.key.now ++ a.value.now)) m n S s (tag_of a.key.now)) (sized (goal.at.returns-in-Free c).Else-key-k).0 (sized (goal.at.returns-in-Free c).Else-key-k).1
-            ∙ ap (λ (n : ℕ). set_control (sets a.book.now (entry_at a.k a.v s) (a.key.now ++ a.value.now)) a.k a.v n s (tag_of a.key.now)) (checks (goal.at.returns-in-Free c).In-Slots).count
-            ∙ sym w.1,
-        sym w.2,
-      ),
-    )
+    let S = c.in-Slots.slots in record {
+      answered = sym w.0;
+      book_after = c.write_new.ensures
+          ∙ ap₂ (λ (m n : ℕ). set_control (sets a.book.now (entry_at m n s) (a.key.now ++ a.value.now)) m n S s (tag_of a.key.now)) (sized (goal.at.returns-in-Free c).Else-key-k).0 (sized (goal.at.returns-in-Free c).Else-key-k).1
+          ∙ ap (λ (n : ℕ). set_control (sets a.book.now (entry_at a.k a.v s) (a.key.now ++ a.value.now)) a.k a.v n s (tag_of a.key.now)) (checks (goal.at.returns-in-Free c).In-Slots).count
+          ∙ sym w.1;
+      old_after = sym w.2;
+    }
 
 pub returns-in-Full : goal.returns-in-Full
 unfolding insert_says written old_value
 returns-in-Full c =
     let a = c.args in
     let w = insert_answer_says a.book.now a.k a.v a.key.now a.value.now a.old.now (Rule.full c.in-Full.n) (passes (goal.at.returns-in-Full c).Else-key-k) (ends (goal.at.returns-in-Full c).After-search ∙ ap said_spot c.in-Full.is) in
-    (ap refused c.no_end.ensures ∙ sym w.0, (sym w.1, sym w.2))
+    record { answered = ap refused c.no_end.ensures ∙ sym w.0; book_after = sym w.1; old_after = sym w.2 }

@@ -35,7 +35,7 @@ returns c =
     let o = c.value_offset-at in
     let n : o.result.0 + length a.value.now - o.result.0 ≡ length a.value.now = omega arith in
     let r = ap₂ (λ (m at : ℕ). take m (drop at a.book.now)) n o.ensures in
-    let l = length_part (length a.value.now) (value_at a.k (length a.value.now) a.slot.0) a.book.now (omega (arith, (value_in (goal.at.returns c).After-value_offset-at).0, o.ensures)) in (
-      c.overwrite-2.ensures ∙ ap (λ (at : ℕ). sets a.book.now at a.value.now) o.ensures,
-      c.overwrite.ensures ∙ ap (sets a.old.now 0) r ∙ sets_whole a.old.now _ (l ∙ sym c.requires.2),
-    )
+    let l = length_part (length a.value.now) (value_at a.k (length a.value.now) a.slot.0) a.book.now (omega (arith, (value_in (goal.at.returns c).After-value_offset-at).0, o.ensures)) in record {
+      book_after = c.overwrite-2.ensures ∙ ap (λ (at : ℕ). sets a.book.now at a.value.now) o.ensures;
+      old_after = c.overwrite.ensures ∙ ap (sets a.old.now 0) r ∙ sets_whole a.old.now _ (l ∙ sym c.requires.2);
+    }

@@ -12,7 +12,7 @@ use Rattle.rules.specs.Calls.{set_control}
 use Rattle.rules.proofs.RowLaws.{inside}
 use Rattle.raw_table.proofs.WriteLaws.{sets_append, passed_still}
 use Rattle.raw_table.proofs.insert.write_new.Goals as goal
-use Rattle.raw_table.proofs.insert.write_new.Goals.{After-overwrite-2, Start}
+use Rattle.raw_table.proofs.insert.write_new.Goals.{After-overwrite, After-overwrite-2, Start}
 
 entry_in : (c : Start)
     → entry_at (length c.args.key.now) (length c.args.value.now) c.args.slot.0 + (length c.args.key.now + length c.args.value.now) ≤ length c.args.book.now
@@ -21,12 +21,12 @@ entry_in c =
     (inside a.book.now (length a.key.now) (length a.value.now) a.slots a.slot.0 c.requires.0 c.requires.1).0
 
 -- the book once key and value are written
-abbrev entry : tie.After-overwrite → List ℕ
+abbrev entry : After-overwrite → List ℕ
 entry c =
-    let a = (start c).args in
+    let a = c.args in
     sets a.book.now (entry_at (length a.key.now) (length a.value.now) a.slot.0) (a.key.now ++ a.value.now)
 
-entry_is : (c : After-overwrite-2) → c.overwrite-2.new.0 ≡ entry c.before.before.before.before.before
+entry_is : (c : After-overwrite-2) → c.overwrite-2.new.dst ≡ entry (goal.at.After-overwrite-2 c).After-overwrite
 entry_is c =
     let a = c.args in
     let k = length a.key.now in
@@ -40,13 +40,13 @@ pub overwrite-requires : goal.overwrite-requires
 overwrite-requires c = omega (arith, entry_in (goal.at.overwrite-requires c).Start, c.entry_offset.ensures)
 
 pub overwrite-requires-2 : goal.overwrite-requires-2
-overwrite-requires-2 c = omega (arith, entry_in (start c.before.before.before.before), c.value_offset.ensures)
+overwrite-requires-2 c = omega (arith, entry_in (goal.at.overwrite-requires-2 c).Start, c.value_offset.ensures)
 
 pub set_control-requires : goal.set_control-requires
 set_control-requires c =
     let a = c.args in
-    let e : length c.overwrite-2.new.0 ≡ length a.book.now = ap length (entry_is (goal.at.set_control-requires c).After-overwrite-2) ∙ simp length-sets in
-    (passed_still a.book.now c.overwrite-2.new.0 (length a.key.now) (length a.value.now) a.slots e c.requires.0, c.requires.1)
+    let e : length c.overwrite-2.new.dst ≡ length a.book.now = ap length (entry_is (goal.at.set_control-requires c).After-overwrite-2) ∙ simp length-sets in
+    (passed_still a.book.now c.overwrite-2.new.dst (length a.key.now) (length a.value.now) a.slots e c.requires.0, c.requires.1)
 
 pub returns : goal.returns
 returns c =

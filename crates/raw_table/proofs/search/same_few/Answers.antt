@@ -13,8 +13,8 @@ use Rattle.raw_table.proofs.search.same_few.Goals as goal
 use Rattle.raw_table.proofs.search.same_few.Goals.{In-loop-i}
 
 -- what the bytes after i still have to tell
-abbrev after : tie.In-loop invariant-loop decreases-loop → Bool
-after c = let a = c.before.before.args in same_bytes (drop (c.before.loop.i + 1) a.a.now) (drop (c.before.loop.i + 1) a.b.now)
+abbrev after : In-loop-i → Bool
+after c = same_bytes (drop (c.loop-i.i + 1) c.args.a.now) (drop (c.loop-i.i + 1) c.args.b.now)
 
 stepped : (c : In-loop-i)
     → same_bytes (drop c.loop-i.i c.args.a.now) (drop c.loop-i.i c.args.b.now)
@@ -25,12 +25,15 @@ pub loop-i-init : goal.loop-i-init
 loop-i-init c = (omega arith, refl)
 
 pub returns-then-ours-theirs : goal.returns-then-ours-theirs
-returns-then-ours-theirs c = sym (c.loop-i.invariant.1 ∙ stepped (goal.at.returns-then-ours-theirs c).In-loop-i ∙ ap (λ (q : Bool). q && after c.before.before.before) (ne_eqb _ _ c.if-ours-theirs.true))
+returns-then-ours-theirs c =
+    let t = (goal.at.returns-then-ours-theirs c).In-loop-i in
+    sym (c.loop-i.invariant.1 ∙ stepped t ∙ ap (λ (q : Bool). q && after t) (ne_eqb _ _ c.if-ours-theirs.true))
 
 pub loop-i-preserved : goal.loop-i-preserved
 loop-i-preserved c =
     let v = c.loop-i.invariant in
-    (omega arith, v.1 ∙ stepped (goal.at.loop-i-preserved c).In-loop-i ∙ ap (λ (q : Bool). q && after c.before.before.before) (eq-eqb _ _ c.if-ours-theirs.false))
+    let t = (goal.at.loop-i-preserved c).In-loop-i in
+    (omega arith, v.1 ∙ stepped t ∙ ap (λ (q : Bool). q && after t) (eq-eqb _ _ c.if-ours-theirs.false))
 
 pub returns : goal.returns
 returns c =

@@ -20,7 +20,7 @@ use Rattle.raw_table.specs.Seq.{seq_at}
 use Rattle.raw_table.proofs.SeqLaws.{seq_stands, seq_room}
 use Rattle.raw_table.proofs.TurnLaws.{Left, group_long, all_left, none_left, lowest_lt, tried_yes}
 use Rattle.raw_table.proofs.search.search.Goals as goal
-use Rattle.raw_table.proofs.search.search.Goals.{After-first_empty, After-new-ps, After-query_at-query, Else-query-ne0, In-At, Joined-query-ne0, else-query-ne0, then-query-ne0}
+use Rattle.raw_table.proofs.search.search.Goals.{After-first_empty, After-new-ps, After-query_at-query, Else-query-ne0, In-At, Joined-query-ne0, else-query-ne0+in_default, then-query-ne0+else-holds}
 
 -- the probe before its first group, and where that starts
 begun : (c : After-new-ps) → c.new-ps.result ≡ seq_at (start_of c.args.slots c.args.key.now) c.args.slots 0
@@ -75,13 +75,18 @@ joined c =
     let a = c.args in
     let b = start_of a.slots a.key.now in
     let whole = at_start 8 reports a.book.now a.k a.v a.slots a.key.now in
+    let t = goal.at.Joined-query-ne0 c in
+    let p = c.new-ps.result.index in
+    let group = group_at 8 a.book.now a.k a.v a.slots p in
     elim c.if-query-ne0.branch [
-      | then-query-ne0 w ↦ (omega arith, rw (w.5, w.6) (begun (goal.at.Joined-query-ne0 c).After-new-ps), rw w.6 whole)
-      | else-query-ne0 w ↦ let e : tie.After-first-empty = record { before = record { before = c.before; if1 = w.0 }; first-empty = w.1 } in (
-        omega (arith, some_group (goal.at.Joined-query-ne0 c).After-new-ps),
-        rw (w.5, w.6) (w.4.ensures b 0 (begun (goal.at.Joined-query-ne0 c).After-new-ps)),
-        rw w.6 (whole ∙ at_next 8 reports a.book.now a.k a.v a.slots a.key.now (a.slots / 8) 0 c.new-ps.result.index (some_group (goal.at.Joined-query-ne0 c).After-new-ps) (stands (goal.at.Joined-query-ne0 c).After-new-ps).0 (no_key e.before) (sym (empty-is e) ∙ ap said_first w.3.given.1)),
-      )
+      | then-query-ne0+else-holds w ↦ (omega (arith, w.n-is), rw (w.ps-is, w.n-is) (begun t.After-new-ps), rw w.n-is whole)
+      | else-query-ne0+in_default w ↦
+          let key = none_left a.book.now a.key.now a.k a.v a.slots p c.query_at-query.result.eq (left_is t.After-query_at-query) w.if-query-ne0.false in
+          let hole = w.first_empty.ensures group (group_long a.book.now a.key.now a.k a.v a.slots p c.requires (stands t.After-new-ps).1) c.query_at-query.ensures.1 in (
+            omega (arith, some_group t.After-new-ps),
+            rw (w.ps-is, w.n-is) (w.advance-ps.ensures b 0 (begun t.After-new-ps)),
+            rw w.n-is (whole ∙ at_next 8 reports a.book.now a.k a.v a.slots a.key.now (a.slots / 8) 0 p (some_group t.After-new-ps) (stands t.After-new-ps).0 key (sym hole ∙ ap said_first w.in_default.is)),
+          )
     ]
 
 pub query_at-query-requires : goal.query_at-query-requires
