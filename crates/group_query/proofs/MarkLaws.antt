@@ -1,6 +1,6 @@
 -- Going through the marks of a word, lowest first, for any width; and what the marks of empty positions tell of the first one.
 -- By induction over the marks; a word that is not 0 has one. Assumes nothing.
-use Rattle.std.proofs.Common.{◌≡◌, ℕ, zero, suc, ◌+◌, ◌-◌, ◌*◌, ◌/◌, ◌%◌, ◌^◌, ◌<◌, ◌≤◌, Bool, true, false, cond, not, ◌&&◌, eqb, List, [], ◌∷◌, length, get_or, sym, refl, ap, ◌∙◌, ap₂, add-zero, add-suc, suc-add, zero-add, mul-one, arith, lit<, ne_eqb}
+use Rattle.std.proofs.Common.{◌≡◌, ℕ, zero, suc, ◌+◌, ◌-◌, ◌*◌, ◌/◌, ◌%◌, ◌^◌, ◌<◌, Bool, true, false, not, ◌&&◌, eqb, List, [], ◌∷◌, length, get_or, sym, refl, ap, ◌∙◌, ap₂, add-zero, add-suc, suc-add, zero-add, mul-one, arith, lit<, ne_eqb}
 use mathlib.Core.Option.{Option, none, some}
 use lib.Bits.{bit_and, and_block, and_self, shifted_half, shifted_even}
 use lib.Count.{count_trailing_zeros, under}

@@ -1,6 +1,6 @@
 -- The query's bit trick, for a group of any width: taking 1 from each byte of the group xored with the tag borrows at exactly the bytes that
 -- the rule reports, by induction over the bytes with the borrow. Assumes nothing.
-use Rattle.std.proofs.Common.{◌≡◌, ℕ, zero, suc, ◌+◌, ◌-◌, ◌*◌, ◌/◌, ◌%◌, ◌^◌, ◌<◌, ◌≤◌, Bool, true, false, ◌&&◌, ◌||◌, ltb, leb, List, [], ◌∷◌, map, length, get_or, replicate, sym, refl, ap, ◌∙◌, subst, ap₂, add-zero, mod-eq_of_lt, mul_assoc, pow-suc, div-add-mod', arith, lit<, ltb-false, ltb-true, le-ltb, eq-eqb, ne_eqb, leb-false, leb-true}
+use Rattle.std.proofs.Common.{◌≡◌, ℕ, zero, suc, ◌+◌, ◌-◌, ◌*◌, ◌/◌, ◌%◌, ◌^◌, ◌<◌, ◌≤◌, Bool, true, false, ltb, leb, List, [], ◌∷◌, map, length, replicate, sym, refl, ap, ◌∙◌, subst, ap₂, add-zero, mod-eq_of_lt, mul_assoc, pow-suc, div-add-mod', arith, lit<, ltb-false, ltb-true, le-ltb, eq-eqb, ne_eqb, leb-false, leb-true}
 use native.Mathlib.Nat.{add-mul-mod_self_right}
 use lib.ListN.{length-map}
 use lib.Bits.{bit_and, bit_xor, xor_block, and_block, and_high, and_shifted, and_le_l, xor_lt, xor_self, xor_comm}

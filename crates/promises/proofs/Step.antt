@@ -17,7 +17,7 @@ use Rattle.rules.specs.Hash.{tag_of}
 use Rattle.rules.specs.Group.{reports}
 use Rattle.rules.specs.Search.{Spot, same, free, full, spot_of}
 use Rattle.rules.specs.Rows.{Refusal, no_end}
-use Rattle.rules.specs.Calls.{refused, new, insert_rows, insert_says, insert_answer, insert_book, set_control, written, old_value}
+use Rattle.rules.specs.Calls.{refused, insert_rows, insert_says, insert_answer, insert_book, set_control, written, old_value}
 use Rattle.rules.specs.Bounds.{Passed}
 use Rattle.rules.proofs.TestLaws.{impossible}
 use Rattle.rules.proofs.BytesLaws.{same_part, part_is}

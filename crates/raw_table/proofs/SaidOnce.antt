@@ -1,5 +1,5 @@
 -- No two answers say the same: so a contract `said r ≡ rule ..` leaves one answer. Assumes nothing.
-use mathlib.Core.Path.{◌≡◌, refl, ap}
+use mathlib.Core.Path.{◌≡◌, ap}
 use Rattle.rules.proofs.TestLaws.{impossible}
 use Rattle.memory_layout.specs.Said.{said_refusal}
 use Rattle.memory_layout.proofs.SaidLaws.{refusal_once}

@@ -1,23 +1,22 @@
 -- One turn of the search: its group lies within the book, and going through its candidates decides what `equal_key` says.
 -- `Left` is the state of that: the marks that are still to be tried decide the group. Assumes nothing.
-use mathlib.Core.Path.{◌≡◌, refl, sym, ap, ap₂, ◌∙◌}
+use mathlib.Core.Path.{◌≡◌, refl, sym, ap, ◌∙◌}
 use mathlib.Core.Bool.{Bool, true, false}
 use mathlib.Core.List.{List, ◌∷◌}
 use mathlib.Core.Option.{none, some}
-use Prim.Native.Nat.{ℕ, ◌+◌, ◌*◌, ◌/◌, ◌%◌, ◌≤◌, ◌<◌}
+use Prim.Native.Nat.{ℕ, ◌<◌}
 use native.Mathlib.Omega.{arith}
 use lib.ListN.{length}
 use Rattle.rules.specs.Bounds.{Passed}
 use Rattle.rules.specs.Bytes.{part, same_bytes}
 use Rattle.rules.specs.First.{first_of}
-use Rattle.rules.specs.Layout.{key_of, control_at, total}
-use Rattle.rules.specs.Hash.{tag_of, start_of}
-use Rattle.rules.specs.Group.{reports, positions, first_empty}
-use Rattle.rules.specs.Probe.{group_start, slot_of}
+use Rattle.rules.specs.Layout.{key_of, control_at}
+use Rattle.rules.specs.Hash.{tag_of}
+use Rattle.rules.specs.Group.{reports, positions}
+use Rattle.rules.specs.Probe.{slot_of}
 use Rattle.rules.specs.Search.{equal_key}
 use Rattle.rules.proofs.BytesLaws.{length_part}
 use Rattle.rules.proofs.GroupLaws.{length_reports}
-use Rattle.rules.proofs.LayoutLaws.{total_fits}
 use Rattle.rules.proofs.SearchLaws.{try_yes, try_no, try_none}
 use Rattle.group_query.specs.Marks.{word, others}
 use Rattle.group_query.proofs.MarkLaws.{positions_none, length_others}

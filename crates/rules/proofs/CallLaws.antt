@@ -6,7 +6,6 @@ use mathlib.Core.Option.{Option, none, some}
 use Prim.Native.Nat.{ℕ, ◌<◌}
 use native.Mathlib.Omega.{arith}
 use borrow.Author.Tests.{eqb-true, eq-eqb, ne_eqb}
-use lib.Dec.{eqb}
 use lib.ListN.{length}
 use Rattle.rules.specs.First.{first_some}
 use Rattle.rules.specs.Layout.{slot_count, value_of}

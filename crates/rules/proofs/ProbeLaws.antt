@@ -7,7 +7,7 @@ use Prim.Native.Nat.{ℕ, zero, suc, ◌+◌, ◌-◌, ◌*◌, ◌/◌, ◌%◌
 use native.Mathlib.Nat.{mod-one, mod-lt, pow-suc, mul_comm, one-mul, add-mul-div_right, add-mul-mod_self_right, div-add-mod', zero-lt-suc, add-mod-mod, mod-add-mod, add_left_comm, mod-eq_of_lt, mul-le-mul_left, le-mul_of_pos_right, mul-div_cancel, div-lt_iff_lt-mul}
 use native.Mathlib.Omega.{arith}
 use native.Mathlib.Decide.{ℕ_discrete, dec_lt}
-use lib.Arith.{mod-mul, digits_mod, digits_div, digits_lt}
+use lib.Arith.{mod-mul, digits_mod, digits_div}
 use lib.Pow.{pow_pos}
 use Rattle.rules.specs.Probe.{group_start, slot_of, slot_at}
 

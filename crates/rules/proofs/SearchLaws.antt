@@ -1,7 +1,7 @@
 -- The search group by group, for any width and any query: after j groups that did not decide, the whole is what the rest gives.
 -- Assumes nothing.
-use mathlib.Core.Path.{◌≡◌, refl, ap, ◌∙◌}
-use mathlib.Core.Bool.{Bool, true, false, cond}
+use mathlib.Core.Path.{◌≡◌, ap, ◌∙◌}
+use mathlib.Core.Bool.{Bool, true, false}
 use mathlib.Core.List.{List, [], ◌∷◌}
 use mathlib.Core.Option.{Option, none, some}
 use Prim.Native.Nat.{ℕ, zero, suc, ◌+◌, ◌-◌, ◌*◌, ◌/◌, ◌≤◌, ◌<◌}
@@ -10,9 +10,9 @@ use native.Mathlib.Numerals.{add-one}
 use native.Mathlib.Omega.{arith}
 use lib.ListN.{drop}
 use lib.Seq.{get_or-take, get_or-drop}
-use Rattle.rules.specs.Bytes.{byte_at, part, same_bytes}
+use Rattle.rules.specs.Bytes.{byte_at, part}
 use Rattle.rules.specs.First.{first_of}
-use Rattle.rules.specs.Layout.{control_at, key_of, control}
+use Rattle.rules.specs.Layout.{control_at, control}
 use Rattle.rules.specs.Hash.{start_of}
 use Rattle.rules.specs.Group.{first_empty}
 use Rattle.rules.specs.Probe.{group_start, slot_of}

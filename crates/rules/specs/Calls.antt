@@ -1,12 +1,12 @@
 -- Each call: its answer, and what each lent buffer holds afterwards.
-use Rattle.std.specs.Prelude.{ℕ, suc, ◌+◌, ◌-◌, Bool, cond, not, ◌&&◌, List, [], ◌∷◌, ◌++◌, ltb, set}
+use Rattle.std.specs.Prelude.{ℕ, suc, ◌+◌, ◌-◌, cond, not, ◌&&◌, List, [], ◌∷◌, ◌++◌, ltb, set}
 use Rattle.std.proofs.Math.Option.{Option, none, some}
 use Rattle.std.proofs.lemmas.List.Edits.{sets}
 use Rattle.rules.specs.First.{numbers, first_of, first_some}
 use Rattle.rules.specs.Layout.{entry_at, value_at, control_at, slot_count, value_of, control, occupied, fresh_book}
 use Rattle.rules.specs.Hash.{tag_of}
 use Rattle.rules.specs.Search.{Spot, same, free, full, spot_of}
-use Rattle.rules.specs.Rows.{Refusal, refusal, no_end, row_if, header_rows, init_rows, slot_rows, fits}
+use Rattle.rules.specs.Rows.{Refusal, no_end, row_if, header_rows, init_rows, slot_rows, fits}
 
 -- what a call answers
 pub data Answer : Type 0 where

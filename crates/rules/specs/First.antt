@@ -1,5 +1,5 @@
 -- The first of a list that passes a test. Every "lowest" and every "first that applies" of document 01 is said by these.
-use Rattle.std.specs.Prelude.{ℕ, zero, suc, Bool, true, false, cond, not, ◌&&◌, List, [], ◌∷◌}
+use Rattle.std.specs.Prelude.{ℕ, zero, suc, Bool, true, cond, not, ◌&&◌, List, [], ◌∷◌}
 use Rattle.std.proofs.Math.Option.{Option, none, some}
 
 -- n numbers from i upward

@@ -1,5 +1,5 @@
 -- The bytes of a book. k is the key size, v the value size, S the slot count, i a slot, p a control position.
-use Rattle.std.specs.Prelude.{ℕ, zero, suc, ◌+◌, ◌*◌, ◌^◌, Bool, true, false, not, ◌&&◌, ◌||◌, List, [], ◌∷◌, ◌++◌, eqb, leb, replicate}
+use Rattle.std.specs.Prelude.{ℕ, zero, suc, ◌+◌, ◌*◌, ◌^◌, Bool, false, not, ◌&&◌, ◌||◌, List, [], ◌∷◌, ◌++◌, eqb, leb, replicate}
 use Rattle.rules.specs.Bytes.{byte_at, part, le, le_bytes}
 
 -- the largest slot count

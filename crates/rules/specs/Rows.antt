@@ -1,8 +1,8 @@
 -- The refusals and their rows, in the order of document 01's table.
-use Rattle.std.specs.Prelude.{ℕ, ◌+◌, Bool, cond, not, ◌&&◌, List, [], ◌∷◌, ◌++◌, eqb, leb, ltb, length}
+use Rattle.std.specs.Prelude.{ℕ, ◌+◌, Bool, cond, not, List, [], ◌∷◌, eqb, ltb, length}
 use Rattle.std.proofs.Math.Option.{Option, none, some}
 use Rattle.rules.specs.Bytes.{byte_at, part, same_bytes}
-use Rattle.rules.specs.First.{numbers, first_of, each_of, first_some}
+use Rattle.rules.specs.First.{numbers, first_of, each_of}
 use Rattle.rules.specs.Layout.{are_sizes, is_slot_count, book_tag, version, total, slot_count, entry_at, key_of, control, is_empty}
 use Rattle.rules.specs.Hash.{tag_of}
 

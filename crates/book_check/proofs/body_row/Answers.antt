@@ -1,5 +1,4 @@
 -- Each row counts where none before it applies, in the order of the rule.
-use borrow.Author.Rules.{rules}
 use mathlib.Core.Path.{◌≡◌, refl, sym, ap, ◌∙◌}
 use mathlib.Core.List.{[]}
 use mathlib.Core.Option.{none}

@@ -1,5 +1,5 @@
 -- The lowest bit of a word of marks stands in the byte of its lowest mark.
-use Rattle.std.proofs.Common.{◌≡◌, ℕ, ◌/◌, ◌<◌, List, ◌∷◌, sym, ap, ◌∙◌, ap₂, zero-add, arith, rules}
+use Rattle.std.proofs.Common.{◌≡◌, ℕ, ◌/◌, ◌<◌, ◌∷◌, sym, ap, ◌∙◌, ap₂, zero-add, arith}
 use lib.Count.{count_trailing_zeros}
 use Rattle.rules.specs.Group.{positions}
 use Rattle.group_query.specs.Marks.{word, others}

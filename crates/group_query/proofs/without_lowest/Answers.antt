@@ -1,7 +1,7 @@
 -- A word of marks loses its lowest mark where it is joined with the number before it.
-use Rattle.std.proofs.Common.{◌≡◌, ℕ, ◌-◌, ◌<◌, ap, ◌∙◌, arith, rules}
+use Rattle.std.proofs.Common.{ℕ, ◌-◌, ◌<◌, ap, ◌∙◌, arith}
 use lib.Bits.{bit_and}
-use Rattle.group_query.specs.Marks.{word, others}
+use Rattle.group_query.specs.Marks.{word}
 use Rattle.group_query.proofs.MarkLaws.{others_word, others_lt}
 use Rattle.group_query.proofs.without_lowest.Goals as goal
 

@@ -1,5 +1,4 @@
 -- The bytes compared are those of the mirror's position and of the slot's own.
-use borrow.Author.Rules.{rules}
 use mathlib.Core.Path.{ap, ap₂, ◌∙◌}
 use mathlib.Core.Bool.{not}
 use lib.Dec.{eqb}

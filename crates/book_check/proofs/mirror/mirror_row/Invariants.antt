@@ -1,14 +1,10 @@
 -- The invariant: i mirrors are as they should be, so the row is that of the first that differs from i on.
-use borrow.Author.Rules.{rules}
-use mathlib.Core.Path.{◌≡◌, sym, ap, ◌∙◌}
-use mathlib.Core.Option.{some}
+use mathlib.Core.Path.{◌≡◌}
 use Prim.Native.Nat.{◌-◌}
-use native.Mathlib.Omega.{arith}
 use Rattle.rules.specs.First.{numbers, first_of}
 use Rattle.rules.specs.Rows.{row_at}
 use Rattle.rules.specs.Check.{mirror_differs}
-use Rattle.raw_slots.specs.SaidOpen.{said_fault}
-use Rattle.book_check.proofs.LoopLaws.{Row, row_start, row_here, row_next, row_end}
+use Rattle.book_check.proofs.LoopLaws.{Row}
 use Rattle.book_check.proofs.mirror.mirror_row.Given as goal
 
 abbrev pub invariant-loop-i : goal.invariant-loop-i

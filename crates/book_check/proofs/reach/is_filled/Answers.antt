@@ -1,13 +1,8 @@
-use borrow.Author.Rules.{rules}
 use mathlib.Core.Path.{◌≡◌, sym, ap, ◌∙◌}
-use mathlib.Core.Bool.{Bool, true, false}
-use mathlib.Core.List.{List}
-use Prim.Native.Nat.{ℕ, ◌-◌}
 use native.Mathlib.Omega.{arith}
 use Rattle.rules.specs.Layout.{occupied}
-use Rattle.rules.specs.Probe.{slot_at}
 use Rattle.rules.specs.Check.{filled}
-use Rattle.book_check.proofs.LoopLaws.{denied, Each, each_start, each_here, each_next, each_end}
+use Rattle.book_check.proofs.LoopLaws.{each_start, each_here, each_next, each_end}
 use Rattle.book_check.proofs.reach.is_filled.Invariants.{Taken}
 use Rattle.book_check.proofs.reach.is_filled.Goals as goal
 use Rattle.book_check.proofs.reach.is_filled.Goals.{After-is_occupied}

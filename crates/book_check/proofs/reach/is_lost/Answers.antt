@@ -1,9 +1,7 @@
 -- An empty slot has no key to be lost.
-use borrow.Author.Rules.{rules}
 use mathlib.Core.Path.{sym, ap, ◌∙◌}
-use mathlib.Core.Bool.{true, false, not}
+use mathlib.Core.Bool.{not}
 use Rattle.rules.specs.Check.{is_lost}
-use Rattle.book_check.proofs.LoopLaws.{denied}
 use Rattle.book_check.proofs.reach.is_lost.Goals as goal
 
 pub returns-then-not-is_occupied : goal.returns-then-not-is_occupied

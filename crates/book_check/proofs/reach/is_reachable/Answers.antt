@@ -1,13 +1,9 @@
-use borrow.Author.Rules.{rules}
-use mathlib.Core.Path.{◌≡◌, sym, ap, ◌∙◌}
-use mathlib.Core.Bool.{Bool}
-use Prim.Native.Nat.{ℕ, ◌-◌}
+use mathlib.Core.Path.{sym, ap, ◌∙◌}
+use Prim.Native.Nat.{ℕ}
 use native.Mathlib.Omega.{arith}
 use borrow.Author.Tests.{eq-eqb, ne_eqb}
-use lib.Dec.{eqb}
-use Rattle.rules.specs.Probe.{slot_at}
 use Rattle.rules.specs.Check.{place_of, reachable_at, reachable}
-use Rattle.rules.proofs.FirstLaws.{Onward, onward_start, onward_yes, onward_no, onward_end}
+use Rattle.rules.proofs.FirstLaws.{onward_start, onward_yes, onward_no, onward_end}
 use Rattle.book_check.proofs.reach.is_reachable.Invariants.{Met}
 use Rattle.book_check.proofs.reach.is_reachable.Goals as goal
 

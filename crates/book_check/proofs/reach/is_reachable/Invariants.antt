@@ -1,14 +1,11 @@
 -- The invariant: the slot is none of the n first of the order, so its place is the first from n on; that place decides.
-use borrow.Author.Rules.{rules}
-use mathlib.Core.Path.{◌≡◌, sym, ap, ◌∙◌}
+use mathlib.Core.Path.{◌≡◌}
 use mathlib.Core.Bool.{Bool}
 use Prim.Native.Nat.{ℕ, ◌-◌}
-use native.Mathlib.Omega.{arith}
-use borrow.Author.Tests.{eq-eqb, ne_eqb}
 use lib.Dec.{eqb}
 use Rattle.rules.specs.Probe.{slot_at}
-use Rattle.rules.specs.Check.{place_of, reachable_at, reachable}
-use Rattle.rules.proofs.FirstLaws.{Onward, onward_start, onward_yes, onward_no, onward_end}
+use Rattle.rules.specs.Check.{reachable_at, reachable}
+use Rattle.rules.proofs.FirstLaws.{Onward}
 use Rattle.book_check.proofs.reach.is_reachable.Given as goal
 
 abbrev pub Met : ℕ → ℕ → ℕ → ℕ → Bool

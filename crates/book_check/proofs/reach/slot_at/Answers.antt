@@ -1,5 +1,4 @@
 -- The sum is the rule's, and fits, since a pair's number is below 2^16.
-use borrow.Author.Rules.{rules}
 use mathlib.Core.Path.{◌∙◌}
 use Prim.Native.Nat.{◌+◌, ◌*◌, ◌/◌, ◌^◌, ◌≤◌}
 use native.Mathlib.Nat.{one-mul, mod-lt, mul-le-mul_left}

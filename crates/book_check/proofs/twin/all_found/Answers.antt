@@ -1,11 +1,7 @@
-use borrow.Author.Rules.{rules}
-use mathlib.Core.Path.{◌≡◌, sym, ◌∙◌}
-use mathlib.Core.Bool.{true, false}
-use Prim.Native.Nat.{◌-◌}
+use mathlib.Core.Path.{sym, ◌∙◌}
 use native.Mathlib.Omega.{arith}
-use Rattle.rules.specs.First.{numbers, each_of}
 use Rattle.book_check.specs.Quick.{found_own}
-use Rattle.book_check.proofs.LoopLaws.{denied, Each, each_start, each_here, each_next, each_end}
+use Rattle.book_check.proofs.LoopLaws.{each_start, each_here, each_next, each_end}
 use Rattle.book_check.proofs.twin.all_found.Goals as goal
 
 pub loop-i-init : goal.loop-i-init

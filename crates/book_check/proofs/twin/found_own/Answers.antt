@@ -1,9 +1,6 @@
 -- An empty slot has no key to find.
-use borrow.Author.Rules.{rules}
 use mathlib.Core.Path.{sym, ◌∙◌}
-use mathlib.Core.Bool.{true, false}
 use Rattle.book_check.specs.Quick.{found_own}
-use Rattle.book_check.proofs.LoopLaws.{denied}
 use Rattle.book_check.proofs.twin.found_own.Goals as goal
 
 pub returns-then-not-is_occupied : goal.returns-then-not-is_occupied

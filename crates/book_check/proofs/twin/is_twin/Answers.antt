@@ -1,9 +1,6 @@
 -- An empty slot has no key to stand twice.
-use borrow.Author.Rules.{rules}
 use mathlib.Core.Path.{sym, ◌∙◌}
-use mathlib.Core.Bool.{true, false}
 use Rattle.rules.specs.Check.{is_twin}
-use Rattle.book_check.proofs.LoopLaws.{denied}
 use Rattle.book_check.proofs.twin.is_twin.Goals as goal
 
 pub returns-then-not-is_occupied : goal.returns-then-not-is_occupied

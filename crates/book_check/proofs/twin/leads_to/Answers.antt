@@ -1,5 +1,4 @@
 -- Only the answer of a slot with the same key can be the slot itself.
-use borrow.Author.Rules.{rules}
 use mathlib.Core.Path.{◌≡◌, sym, ap, ◌∙◌}
 use Rattle.rules.specs.Layout.{key_of}
 use Rattle.rules.specs.Search.{spot_of}

@@ -1,12 +1,8 @@
-use borrow.Author.Rules.{rules}
-use mathlib.Core.Path.{◌≡◌, sym, ap, ◌∙◌}
-use mathlib.Core.Bool.{Bool, not}
-use mathlib.Core.List.{List}
-use Prim.Native.Nat.{ℕ, ◌-◌}
+use mathlib.Core.Path.{sym, ap, ◌∙◌}
+use mathlib.Core.Bool.{not}
 use native.Mathlib.Omega.{arith}
-use Rattle.rules.specs.First.{numbers, some_of}
-use Rattle.book_check.specs.Quick.{stands_in}
-use Rattle.book_check.proofs.LoopLaws.{Each, each_start, each_here, each_next, each_end}
+use Rattle.rules.specs.First.{some_of}
+use Rattle.book_check.proofs.LoopLaws.{each_start, each_here, each_next, each_end}
 use Rattle.book_check.proofs.twin.stands_below.Invariants.{Other}
 use Rattle.book_check.proofs.twin.stands_below.Goals as goal
 

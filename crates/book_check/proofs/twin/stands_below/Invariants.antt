@@ -1,13 +1,11 @@
 -- The invariant: the j lowest slots do not have the key, so it is a matter of those from j on.
-use borrow.Author.Rules.{rules}
-use mathlib.Core.Path.{◌≡◌, sym, ap, ◌∙◌}
+use mathlib.Core.Path.{◌≡◌}
 use mathlib.Core.Bool.{Bool, not}
 use mathlib.Core.List.{List}
 use Prim.Native.Nat.{ℕ, ◌-◌}
-use native.Mathlib.Omega.{arith}
 use Rattle.rules.specs.First.{numbers, some_of}
 use Rattle.book_check.specs.Quick.{stands_in}
-use Rattle.book_check.proofs.LoopLaws.{Each, each_start, each_here, each_next, each_end}
+use Rattle.book_check.proofs.LoopLaws.{Each}
 use Rattle.book_check.proofs.twin.stands_below.Given as goal
 
 abbrev pub Other : List ℕ → ℕ → ℕ → ℕ → ℕ → ℕ → Bool

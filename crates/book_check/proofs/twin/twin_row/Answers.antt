@@ -1,5 +1,4 @@
 -- The quick pass and the plain rule agree by the law `no_twins`.
-use borrow.Author.Rules.{rules}
 use mathlib.Core.Path.{sym, ap, ◌∙◌}
 use Rattle.rules.specs.Rows.{row_at}
 use Rattle.raw_slots.specs.SaidOpen.{said_fault}

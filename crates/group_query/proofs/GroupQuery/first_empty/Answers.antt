@@ -1,5 +1,5 @@
 -- The lowest mark of the empty positions is the first empty one.
-use Rattle.std.proofs.Common.{◌≡◌, ℕ, ◌*◌, ◌/◌, ◌<◌, length, sym, ap, ◌∙◌, ap₂, arith, rules}
+use Rattle.std.proofs.Common.{◌≡◌, ℕ, ◌*◌, ◌/◌, ◌<◌, length, sym, ap, ◌∙◌, ap₂, arith}
 use mathlib.Core.Option.{some}
 use lib.Count.{count_trailing_zeros}
 use Rattle.group_query.specs.Marks.{word, empties}

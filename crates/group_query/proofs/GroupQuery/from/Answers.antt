@@ -1,5 +1,5 @@
 -- The two masks are the bit trick's, by its law at eight bytes.
-use Rattle.std.proofs.Common.{◌≡◌, ℕ, ◌+◌, ◌*◌, ◌/◌, ◌≤◌, sym, refl, ap, ◌∙◌, ap₂, arith, rules}
+use Rattle.std.proofs.Common.{ℕ, ap, ◌∙◌, ap₂, arith}
 use lib.Bits.{bit_and, bit_xor}
 use Rattle.rules.specs.Bytes.{le, part}
 use Rattle.rules.proofs.BytesLaws.{bytes_part, length_part}

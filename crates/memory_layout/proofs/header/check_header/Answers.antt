@@ -1,9 +1,7 @@
 -- What passes has no row that applies, and is long; to all else one applies, and that is the first. Assumes nothing.
 use mathlib.Core.Path.{◌≡◌, sym, ◌∙◌}
-use mathlib.Core.Logic.{⊎_elim}
 use mathlib.Core.Option.{none}
 use native.Mathlib.Omega.{arith}
-use borrow.Author.Rules.{rules}
 use Rattle.rules.specs.First.{first_some}
 use Rattle.rules.specs.Rows.{header_rows}
 use Rattle.rules.specs.Calls.{by_rows}

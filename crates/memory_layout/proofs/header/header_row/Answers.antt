@@ -2,7 +2,7 @@
 use mathlib.Core.Path.{◌≡◌, sym, ◌∙◌}
 use mathlib.Core.Bool.{true, false}
 use lib.ListN.{length}
-use borrow.Author.Tests.{not-true, not-false, lt-ltb, le-ltb}
+use borrow.Author.Tests.{lt-ltb, le-ltb}
 use Rattle.rules.specs.Layout.{are_sizes}
 use Rattle.rules.specs.Rows.{header_rows}
 use Rattle.rules.proofs.LayoutLaws.{sizes}

@@ -1,7 +1,6 @@
 -- From 16 on and below, by the laws `count_test` and `count_least`. Assumes nothing.
 use mathlib.Core.Path.{sym}
 use native.Mathlib.Omega.{arith}
-use borrow.Author.Rules.{rules}
 use Rattle.rules.specs.Layout.{slot_limit}
 use Rattle.rules.proofs.LayoutLaws.{count_test, count_least}
 use Rattle.memory_layout.proofs.header.is_slot_count.Goals as goal

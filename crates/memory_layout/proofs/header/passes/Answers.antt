@@ -1,11 +1,10 @@
 -- A test that fails is a row that applies, by the law `each_passed`; where all are passed none does, by `no_row_applies`. Assumes nothing.
 use mathlib.Core.Path.{◌≡◌, sym, ap, ◌∙◌}
-use mathlib.Core.Bool.{true, false, not, ◌||◌}
+use mathlib.Core.Bool.{true, false, ◌||◌}
 use Prim.Native.Nat.{◌≤◌}
 use native.Mathlib.Omega.{arith}
 use lib.Dec.{eqb}
 use borrow.Author.Tests.{not-false, ne_eqb, eqb-true, eqb-false}
-use borrow.Author.Rules.{rules}
 use Rattle.rules.specs.Bytes.{byte_at, le_bytes}
 use Rattle.rules.specs.Layout.{are_sizes, is_slot_count, total}
 use Rattle.rules.proofs.TestLaws.{impossible}

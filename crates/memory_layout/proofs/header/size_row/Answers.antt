@@ -2,13 +2,12 @@
 use mathlib.Core.Path.{◌≡◌, sym, ◌∙◌}
 use mathlib.Core.Bool.{true, false}
 use lib.Dec.{eqb}
-use borrow.Author.Tests.{not-true, not-false, eq-eqb, ne_eqb}
+use borrow.Author.Tests.{eq-eqb, ne_eqb}
 use Rattle.rules.specs.First.{first_some}
 use Rattle.rules.specs.Layout.{is_slot_count, total}
 use Rattle.rules.proofs.LayoutLaws.{slots}
 use Rattle.rules.proofs.RowLaws.{first_if}
 use Rattle.memory_layout.specs.Checked.{numbered, size_rows}
-use borrow.Author.Rules.{rules}
 use Rattle.memory_layout.proofs.header.size_row.Goals as goal
 use Rattle.memory_layout.proofs.header.size_row.Goals.{Else-not-is_slot_count}
 

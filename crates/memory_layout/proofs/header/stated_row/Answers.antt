@@ -1,6 +1,5 @@
 -- Each row put before the later ones, by the law `first_if`. Assumes nothing.
 use mathlib.Core.Path.{◌∙◌}
-use borrow.Author.Rules.{rules}
 use Rattle.rules.specs.Bytes.{le_bytes}
 use Rattle.rules.specs.Rows.{header_rows}
 use Rattle.rules.proofs.RowLaws.{first_if}

@@ -4,7 +4,6 @@ use mathlib.Core.Bool.{not}
 use native.Mathlib.Omega.{arith}
 use Rattle.rules.proofs.BytesLaws.{bytes_part, length_part, same_word}
 use Rattle.rules.specs.Bytes.{part}
-use borrow.Author.Rules.{rules}
 use Rattle.memory_layout.proofs.header.word_not.Goals as goal
 
 pub returns : goal.returns

@@ -1,7 +1,6 @@
 -- A refusal by the tests that led there, with nothing written; past the rows the new book. Assumes nothing.
 use mathlib.Core.Path.{◌≡◌, sym, ◌∙◌}
 use mathlib.Core.Bool.{true, false}
-use borrow.Author.Tests.{not-true, not-false}
 use Rattle.rules.specs.First.{first_some}
 use Rattle.rules.specs.Layout.{are_sizes}
 use Rattle.rules.specs.Rows.{init_rows}
@@ -11,7 +10,6 @@ use Rattle.rules.proofs.RowLaws.{first_if, init_passed}
 use Rattle.memory_layout.specs.Checked.{numbered, size_rows}
 use Rattle.memory_layout.specs.Said.{said_made}
 use Rattle.memory_layout.proofs.RowNumbers.{a_row, no_row}
-use borrow.Author.Rules.{rules}
 use Rattle.memory_layout.proofs.init.init_in_place.Goals as goal
 use Rattle.memory_layout.proofs.init.init_in_place.Goals.{After-size_row-row, Else-not-are_sizes}
 

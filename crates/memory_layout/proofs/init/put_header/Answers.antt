@@ -2,7 +2,6 @@
 use lib.Seq.{sets-eq}
 use Rattle.rules.specs.Bytes.{le_bytes}
 use Rattle.rules.specs.Layout.{header}
-use borrow.Author.Rules.{rules}
 use Rattle.memory_layout.proofs.init.put_header.Goals as goal
 
 pub returns : goal.returns

@@ -4,7 +4,6 @@ use Prim.Native.Nat.{◌%◌}
 use native.Mathlib.Nat.{mod-eq_of_lt}
 use native.Mathlib.Omega.{arith}
 use Rattle.rules.specs.Bytes.{le_bytes}
-use borrow.Author.Rules.{rules}
 use Rattle.memory_layout.proofs.init.put_sizes.Goals as goal
 
 pub returns : goal.returns

@@ -7,7 +7,6 @@ use lib.ListN.{length, replicate, drop, length-replicate}
 use Rattle.rules.specs.Bytes.{le_bytes}
 use Rattle.rules.specs.Layout.{header, fresh_book}
 use Rattle.memory_layout.proofs.PartLaws.{over, two_parts}
-use borrow.Author.Rules.{rules}
 use Rattle.memory_layout.proofs.init.write_book.Goals as goal
 
 header_long : (k v S count load : ℕ) → length (header k v S count load) ≡ 32

@@ -1,5 +1,4 @@
 -- A mask of the slot count less one is the remainder: the law `mask_mod`. Assumes nothing.
-use borrow.Author.Rules.{rules}
 use Rattle.rules.proofs.LayoutLaws.{mask_mod}
 use Rattle.memory_layout.proofs.kinds.wrap.Goals as goal
 

@@ -1,12 +1,8 @@
 -- After i turns the part is i times the byte and then what it was. Assumes nothing.
-use mathlib.Core.Path.{◌≡◌, ap, ◌∙◌}
-use mathlib.Core.List.{List, ◌++◌, append-nil}
-use Prim.Native.Nat.{ℕ, ◌-◌, ◌≤◌, ◌<◌}
-use native.Mathlib.Omega.{arith}
-use lib.ListN.{length, replicate, drop, set, length-set}
-use lib.Seq.{drop-length}
-use borrow.Author.Fill.{fill_none, fill_more}
-use borrow.Author.Rules.{rules}
+use mathlib.Core.Path.{◌≡◌}
+use mathlib.Core.List.{◌++◌}
+use Prim.Native.Nat.{◌-◌, ◌≤◌}
+use lib.ListN.{length, replicate, drop}
 use Rattle.memory_layout.proofs.parts.fill.Given as goal
 
 abbrev pub invariant-loop-i : goal.invariant-loop-i

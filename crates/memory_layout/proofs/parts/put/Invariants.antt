@@ -1,12 +1,9 @@
 -- The whole is what the bytes still to be written make of the bytes so far. Assumes nothing.
 use mathlib.Core.Path.{◌≡◌}
-use Prim.Native.Nat.{suc, ◌+◌, ◌-◌, ◌≤◌}
-use native.Mathlib.Nat.{add-zero, sub-zero}
-use native.Mathlib.Omega.{arith}
-use lib.ListN.{length, length-set}
+use Prim.Native.Nat.{◌+◌, ◌-◌, ◌≤◌}
+use lib.ListN.{length}
 use lib.Seq.{sets}
 use Rattle.rules.specs.Bytes.{le_bytes}
-use borrow.Author.Rules.{rules}
 use Rattle.memory_layout.proofs.parts.put.Given as goal
 
 abbrev pub invariant-loop-i : goal.invariant-loop-i

@@ -1,5 +1,4 @@
 -- The header's rows decide, or else the first occupied slot from `from` on.
-use borrow.Author.Rules.{rules}
 use mathlib.Core.Path.{ap, ◌∙◌}
 use Prim.Native.Nat.{ℕ}
 use Rattle.rules.specs.Layout.{occupied}

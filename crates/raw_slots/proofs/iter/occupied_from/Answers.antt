@@ -1,11 +1,9 @@
-use borrow.Author.Rules.{rules}
 use mathlib.Core.Path.{◌≡◌, refl, sym, ap, ◌∙◌}
 use mathlib.Core.Bool.{not}
-use Prim.Native.Nat.{◌-◌}
 use native.Mathlib.Omega.{arith}
 use Rattle.rules.specs.Layout.{is_empty, occupied}
 use Rattle.rules.specs.Calls.{next, next_says}
-use Rattle.rules.proofs.FirstLaws.{Onward, onward_yes, onward_no, onward_end}
+use Rattle.rules.proofs.FirstLaws.{onward_yes, onward_no, onward_end}
 use Rattle.raw_slots.specs.SaidIter.{said_next}
 use Rattle.raw_slots.proofs.iter.occupied_from.Goals as goal
 use Rattle.raw_slots.proofs.iter.occupied_from.Goals.{After-is_empty}

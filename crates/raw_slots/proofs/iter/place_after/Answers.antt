@@ -1,5 +1,4 @@
 -- By cases of the answer, as in the rule; one past an answered slot fits, by what is required.
-use borrow.Author.Rules.{rules}
 use mathlib.Core.Path.{◌≡◌, sym, ap, ◌∙◌}
 use Prim.Native.Nat.{suc}
 use native.Mathlib.Numerals.{add-one}

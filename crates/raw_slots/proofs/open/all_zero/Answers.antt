@@ -1,14 +1,11 @@
-use borrow.Author.Rules.{rules}
 use mathlib.Core.Path.{◌≡◌, refl, sym, ap, ◌∙◌}
 use mathlib.Core.Bool.{Bool, ◌&&◌}
-use mathlib.Core.List.{List}
-use Prim.Native.Nat.{ℕ, ◌+◌, ◌-◌, ◌≤◌}
+use Prim.Native.Nat.{◌+◌}
 use native.Mathlib.Omega.{arith}
 use borrow.Author.Tests.{eq-eqb, ne_eqb}
 use lib.Dec.{eqb}
-use lib.ListN.{length, drop}
+use lib.ListN.{drop}
 use Rattle.rules.specs.Bytes.{byte_at}
-use Rattle.rules.specs.First.{each_of}
 use Rattle.rules.proofs.FirstLaws.{each_step, each_end}
 use Rattle.raw_slots.proofs.open.all_zero.Invariants.{Zeros}
 use Rattle.raw_slots.proofs.open.all_zero.Goals as goal

@@ -1,16 +1,11 @@
 -- The invariant: whether each byte is 0 is whether each is from i on.
-use borrow.Author.Rules.{rules}
-use mathlib.Core.Path.{◌≡◌, refl, sym, ap, ◌∙◌}
-use mathlib.Core.Bool.{Bool, ◌&&◌}
+use mathlib.Core.Path.{◌≡◌}
+use mathlib.Core.Bool.{Bool}
 use mathlib.Core.List.{List}
-use Prim.Native.Nat.{ℕ, ◌+◌, ◌-◌, ◌≤◌}
-use native.Mathlib.Omega.{arith}
-use borrow.Author.Tests.{eq-eqb, ne_eqb}
+use Prim.Native.Nat.{ℕ, ◌-◌, ◌≤◌}
 use lib.Dec.{eqb}
 use lib.ListN.{length, drop}
-use Rattle.rules.specs.Bytes.{byte_at}
 use Rattle.rules.specs.First.{each_of}
-use Rattle.rules.proofs.FirstLaws.{each_step, each_end}
 use Rattle.raw_slots.proofs.open.all_zero.Given as goal
 
 abbrev pub Zeros : List ℕ → Bool

@@ -1,5 +1,4 @@
 -- The header's rows decide, or else rows 11 and 12 of the ten lowest slots.
-use borrow.Author.Rules.{rules}
 use mathlib.Core.Path.{◌≡◌, sym, ap, ◌∙◌}
 use mathlib.Core.List.{[], ◌∷◌}
 use mathlib.Core.Option.{Option}

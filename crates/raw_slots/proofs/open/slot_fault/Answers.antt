@@ -1,5 +1,4 @@
 -- Which row a slot at fault has goes by its control byte, as in the rule.
-use borrow.Author.Rules.{rules}
 use mathlib.Core.Path.{◌≡◌, sym, ap, ap₂, ◌∙◌}
 use mathlib.Core.Option.{some}
 use Rattle.rules.specs.Layout.{control, is_empty}

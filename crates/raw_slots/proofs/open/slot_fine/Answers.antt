@@ -1,5 +1,4 @@
 -- What the slot should be goes by its control byte, as in the rule.
-use borrow.Author.Rules.{rules}
 use mathlib.Core.Path.{◌≡◌, sym, ap, ap₂, ◌∙◌}
 use lib.Dec.{eqb}
 use Rattle.rules.specs.Layout.{control, is_empty}

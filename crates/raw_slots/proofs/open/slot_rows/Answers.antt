@@ -1,11 +1,8 @@
-use borrow.Author.Rules.{rules}
 use mathlib.Core.Path.{◌≡◌, sym, ap, ◌∙◌}
-use mathlib.Core.Bool.{Bool, not}
-use mathlib.Core.List.{List}
-use Prim.Native.Nat.{ℕ, ◌-◌, ◌≤◌}
+use mathlib.Core.Bool.{not}
 use native.Mathlib.Omega.{arith}
-use Rattle.rules.specs.Rows.{slot_fine, slot_row, slot_rows}
-use Rattle.rules.proofs.FirstLaws.{Onward, onward_start, onward_yes, onward_no, onward_end}
+use Rattle.rules.specs.Rows.{slot_row, slot_rows}
+use Rattle.rules.proofs.FirstLaws.{onward_start, onward_yes, onward_no, onward_end}
 use Rattle.raw_slots.specs.SaidOpen.{said_fault}
 use Rattle.raw_slots.proofs.open.slot_rows.Invariants.{Bad}
 use Rattle.raw_slots.proofs.open.slot_rows.Goals as goal

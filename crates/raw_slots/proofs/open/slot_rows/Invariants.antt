@@ -1,13 +1,10 @@
 -- The invariant: i slots are as they should be, so the rows are those of the first at fault from i on.
-use borrow.Author.Rules.{rules}
-use mathlib.Core.Path.{◌≡◌, sym, ap, ◌∙◌}
+use mathlib.Core.Path.{◌≡◌}
 use mathlib.Core.Bool.{Bool, not}
 use mathlib.Core.List.{List}
 use Prim.Native.Nat.{ℕ, ◌-◌, ◌≤◌}
-use native.Mathlib.Omega.{arith}
 use Rattle.rules.specs.Rows.{slot_fine, slot_row, slot_rows}
-use Rattle.rules.proofs.FirstLaws.{Onward, onward_start, onward_yes, onward_no, onward_end}
-use Rattle.raw_slots.specs.SaidOpen.{said_fault}
+use Rattle.rules.proofs.FirstLaws.{Onward}
 use Rattle.raw_slots.proofs.open.slot_rows.Given as goal
 
 abbrev pub Bad : List ℕ → ℕ → ℕ → ℕ → ℕ → Bool

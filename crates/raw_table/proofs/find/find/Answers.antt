@@ -1,5 +1,4 @@
 -- The header's answer decides whether a row applies, and the search's the rest.
-use borrow.Author.Rules.{rules}
 use mathlib.Core.Path.{◌≡◌, sym, ap, ◌∙◌}
 use Prim.Native.Nat.{ℕ}
 use Rattle.rules.specs.Search.{spot_of}

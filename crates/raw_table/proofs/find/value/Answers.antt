@@ -1,17 +1,14 @@
 -- The part is the value of the slot that find answered; where find has no slot, the rule's part is empty too.
-use borrow.Author.Rules.{rules}
 use mathlib.Core.Path.{◌≡◌, sym, ap, ap₂, ◌∙◌}
-use mathlib.Core.List.{[]}
 use Prim.Native.Nat.{ℕ, ◌+◌, ◌-◌, ◌^◌, ◌≤◌, ◌<◌}
 use native.Mathlib.Omega.{arith}
 use lib.ListN.{length, take, drop}
 use Rattle.rules.specs.Bounds.{Passed}
-use Rattle.rules.specs.Layout.{slot_count, value_at}
-use Rattle.rules.specs.Calls.{at_slot, find_answer, value_part}
+use Rattle.rules.specs.Layout.{slot_count}
+use Rattle.rules.specs.Calls.{at_slot, find_answer}
 use Rattle.rules.proofs.TestLaws.{impossible}
 use Rattle.rules.proofs.RowLaws.{inside}
 use Rattle.rules.proofs.CallLaws.{at_passed, value_at_slot, value_empty}
-use Rattle.raw_table.specs.declared.find.Found.{Found}
 use Rattle.raw_table.specs.Said.{said_found}
 use Rattle.raw_table.proofs.find.value.Goals as goal
 use Rattle.raw_table.proofs.find.value.Goals.{After-value_offset-at, In-At}

@@ -1,8 +1,7 @@
 -- The header and the lengths decide whether a row applies, and then the search which of the two writers runs.
-use borrow.Author.Rules.{rules}
 use mathlib.Core.Path.{◌≡◌, refl, sym, ap, ap₂, subst, ◌∙◌}
-use mathlib.Core.Bool.{true, false}
-use mathlib.Core.List.{List, ◌++◌}
+use mathlib.Core.Bool.{true}
+use mathlib.Core.List.{◌++◌}
 use mathlib.Core.Option.{none}
 use Prim.Native.Nat.{ℕ, ◌<◌}
 use native.Mathlib.Omega.{arith}

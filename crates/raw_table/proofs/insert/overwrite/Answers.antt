@@ -1,10 +1,7 @@
-use borrow.Author.Rules.{rules}
-use mathlib.Core.Path.{◌≡◌, refl, sym, ◌∙◌}
-use Prim.Native.Nat.{◌+◌, ◌-◌, ◌≤◌}
+use mathlib.Core.Path.{refl, sym, ◌∙◌}
 use native.Mathlib.Nat.{add-zero}
 use native.Mathlib.Omega.{arith}
-use lib.ListN.{length, drop, length-set}
-use lib.Seq.{sets}
+use lib.ListN.{length-set}
 use Rattle.raw_table.proofs.WriteLaws.{sets_step, sets_end}
 use Rattle.raw_table.proofs.insert.overwrite.Goals as goal
 

@@ -1,12 +1,8 @@
 -- The invariant: what is to be written from i on, over what is there now, makes the whole.
-use borrow.Author.Rules.{rules}
-use mathlib.Core.Path.{◌≡◌, refl, sym, ◌∙◌}
+use mathlib.Core.Path.{◌≡◌}
 use Prim.Native.Nat.{◌+◌, ◌-◌, ◌≤◌}
-use native.Mathlib.Nat.{add-zero}
-use native.Mathlib.Omega.{arith}
-use lib.ListN.{length, drop, length-set}
+use lib.ListN.{length, drop}
 use lib.Seq.{sets}
-use Rattle.raw_table.proofs.WriteLaws.{sets_step, sets_end}
 use Rattle.raw_table.proofs.insert.overwrite.Given as goal
 
 abbrev pub invariant-loop-i : goal.invariant-loop-i

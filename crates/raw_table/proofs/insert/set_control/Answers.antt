@@ -1,5 +1,4 @@
 -- The byte at the slot's control position, and at its mirror's where there is one.
-use borrow.Author.Rules.{rules}
 use mathlib.Core.Path.{◌≡◌, ap, ap₂, ◌∙◌}
 use Prim.Native.Nat.{ℕ}
 use native.Mathlib.Omega.{arith}

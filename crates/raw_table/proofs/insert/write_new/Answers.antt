@@ -1,13 +1,12 @@
 -- Key and value written one after the other are the entry, and then come the control byte and its mirror.
-use borrow.Author.Rules.{rules}
 use mathlib.Core.Path.{◌≡◌, sym, ap, ap₂, ◌∙◌}
 use mathlib.Core.List.{List, ◌++◌}
 use Prim.Native.Nat.{ℕ, ◌+◌, ◌≤◌}
 use native.Mathlib.Omega.{arith}
 use lib.ListN.{length}
 use lib.Seq.{sets, length-sets}
-use Rattle.rules.specs.Hash.{tag, tag_of}
-use Rattle.rules.specs.Layout.{entry_at, value_at}
+use Rattle.rules.specs.Hash.{tag}
+use Rattle.rules.specs.Layout.{entry_at}
 use Rattle.rules.specs.Calls.{set_control}
 use Rattle.rules.proofs.RowLaws.{inside}
 use Rattle.raw_table.proofs.WriteLaws.{sets_append, passed_still}

@@ -1,9 +1,8 @@
-use borrow.Author.Rules.{rules}
-use mathlib.Core.Path.{◌≡◌, refl, sym, ap₂, ◌∙◌}
-use Prim.Native.Nat.{◌+◌, ◌-◌, ◌≤◌}
+use mathlib.Core.Path.{refl, sym, ap₂, ◌∙◌}
+use Prim.Native.Nat.{◌-◌}
 use native.Mathlib.Omega.{arith}
 use lib.Dec.{eqb}
-use lib.ListN.{length, take}
+use lib.ListN.{length}
 use Rattle.rules.proofs.BytesLaws.{Bytes, same_lengths, word_differs, word_same, word_last}
 use Rattle.raw_table.proofs.search.equals.Goals as goal
 use Rattle.raw_table.proofs.search.equals.Goals.{At-loop-i}

@@ -1,5 +1,4 @@
 -- The part that is compared is the key of the slot's entry, which lies within the book.
-use borrow.Author.Rules.{rules}
 use mathlib.Core.Path.{refl, ap, ◌∙◌}
 use mathlib.Core.List.{List}
 use Prim.Native.Nat.{ℕ, ◌+◌}

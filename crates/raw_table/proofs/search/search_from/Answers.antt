@@ -1,7 +1,6 @@
-use borrow.Author.Rules.{rules}
 use mathlib.Core.Path.{◌≡◌, refl, sym, ap, ◌∙◌}
 use mathlib.Core.Option.{none, some}
-use Prim.Native.Nat.{ℕ, ◌+◌, ◌-◌, ◌/◌, ◌≤◌, ◌<◌}
+use Prim.Native.Nat.{ℕ, ◌+◌, ◌/◌, ◌<◌}
 use native.Mathlib.Nat.{mod-lt}
 use native.Mathlib.Numerals.{add-one}
 use native.Mathlib.Omega.{arith}
@@ -12,13 +11,12 @@ use Rattle.rules.specs.Group.{reports, first_empty}
 use Rattle.rules.specs.Probe.{group_start}
 use Rattle.rules.specs.Search.{group_at, same, free, full, equal_key}
 use Rattle.rules.proofs.GroupLaws.{empty_lt}
-use Rattle.rules.proofs.SearchLaws.{Rest, at_end, at_same, at_free, at_next}
+use Rattle.rules.proofs.SearchLaws.{at_end, at_same, at_free, at_next}
 use Rattle.group_query.specs.Marks.{word, said_first}
-use Rattle.raw_table.specs.declared.search.Spot.TheVariants.{Full}
 use Rattle.raw_table.specs.Said.{said_spot}
 use Rattle.raw_table.specs.Seq.{seq_at}
 use Rattle.raw_table.proofs.SeqLaws.{seq_stands, seq_room}
-use Rattle.raw_table.proofs.TurnLaws.{Holds, Left, group_long, all_left, none_left, lowest_lt, tried_yes, tried_no, rest_less}
+use Rattle.raw_table.proofs.TurnLaws.{Holds, group_long, all_left, none_left, lowest_lt, tried_yes, tried_no, rest_less}
 use Rattle.raw_table.proofs.search.search_from.Goals as goal
 use Rattle.raw_table.proofs.search.search_from.Goals.{After-first_empty, After-holds, After-loop-left, In-At, In-search}
 

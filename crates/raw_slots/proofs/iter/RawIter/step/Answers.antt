@@ -1,8 +1,7 @@
 -- The answer is the rule's, and the walk that is handed back stands where the rule moves it to. That place fits, by the law `step_fits`.
-use Rattle.std.proofs.Common.{ℕ, rules, ap, ◌∙◌}
+use Rattle.std.proofs.Common.{ℕ, ap, ◌∙◌}
 use Rattle.rules.specs.Calls.{moved_to, step_to}
 use Rattle.rules.proofs.WalkLaws.{step_fits}
-use Rattle.raw_slots.specs.declared.iter.RawIter.{RawIter}
 use Rattle.raw_slots.proofs.iter.RawIter.step.Goals as goal
 
 pub place_after-next-requires : goal.place_after-next-requires

@@ -1,5 +1,4 @@
 -- A step from the closed form before group j gives the one before the next, by the half of the pair that j is.
-use borrow.Author.Rules.{rules}
 use Rattle.raw_table.proofs.SeqLaws.{next_pair, next_half}
 use Rattle.raw_table.proofs.probe.ProbeSeq.advance.Goals as goal
 

@@ -1,5 +1,4 @@
 -- The closed form before the first group is the key's start.
-use borrow.Author.Rules.{rules}
 use Rattle.raw_table.proofs.SeqLaws.{seq_start}
 use Rattle.raw_table.proofs.probe.ProbeSeq.new.Goals as goal
 
