@@ -1,10 +1,10 @@
 // Which call a line is: a word, then its numbers, then its byte strings.
 ghost use Rattle.std.specs.Prelude.{◌≤◌, ◌<◌};
 
-use crate::fields::{Number, field_at, number_of, unhex};
+use crate::fields::{Number, field_at, number_of, space_from, unhex};
 use raw_table::search::equals;
 
-#[derive(Drop)]
+#[derive(Clone, Copy)]
 pub enum Call {
     Book,
     More,
@@ -26,11 +26,11 @@ pub enum Call {
 }
 
 // How many numbers a call has, and how many byte strings.
-#[derive(Drop)]
+#[derive(Clone, Copy)]
 struct Shape(usize, usize);
 
 // Where reading goes on.
-#[derive(Drop)]
+#[derive(Clone, Copy)]
 enum Place {
     At(usize),
     Bad,
@@ -176,7 +176,7 @@ fn read_parts(line: &mut [u8], at: usize, count: usize, parts: &mut [usize; 6]) 
 
 // The call that a line is, with its numbers, and its byte strings in the line.
 pub fn read_call(line: &mut [u8], numbers: &mut [u64; 5], parts: &mut [usize; 6]) -> Call {
-    let end = bytes::scan::find(line, 0, line.len(), b' ');
+    let end = space_from(line, 0);
     let call = word_of_table(&line[0..end]);
     let shape = shape_of(call);
     let Place::At(behind) = read_numbers(line, end, shape.0, numbers) else {

@@ -1,22 +1,22 @@
 // The fields of a line. Each value has one spelling: a number no leading zero, bytes lower-case hex, or a dash for none.
-ghost use Rattle.std.specs.Prelude.{◌≡◌, ◌≤◌, length};
+ghost use Rattle.std.specs.Prelude.{◌≡◌, ◌≢◌, ℕ, ◌≤◌, ◌<◌, length, slice_index};
 
 // Where a field lies.
-#[derive(Drop)]
+#[derive(Clone, Copy)]
 pub(crate) struct Field {
     pub start: usize,
     pub end: usize,
     pub is_there: bool,
 }
 
-#[derive(Drop)]
+#[derive(Clone, Copy)]
 pub(crate) enum Number {
     Is(u64),
     Bad,
 }
 
 // How many bytes a field stands for, if it is bytes.
-#[derive(Drop)]
+#[derive(Clone, Copy)]
 pub(crate) struct Decoded {
     pub len: usize,
     pub is_bytes: bool,
@@ -32,6 +32,21 @@ fn no_field() -> Field
     }
 }
 
+// Where the first space stands that is not before a place; the line's end if there is none.
+pub(crate) fn space_from(line: &[u8], from: usize) -> usize
+    requires { from ≤ length line.now }
+    ensures low { from ≤ result }
+    ensures high { result ≤ length line.now }
+    ensures before { (k : ℕ) → from ≤ k → k < result → slice_index line.now k ≢ 32 }
+    ensures found { result < length line.now → slice_index line.now result ≡ 32 }
+{
+    let mut at = from;
+    while at < line.len() && line[at] != b' ' {
+        at += 1;
+    }
+    at
+}
+
 // The field behind the space at a place.
 pub(crate) fn field_at(line: &[u8], at: usize) -> Field
     ensures { (result.start ≤ result.end) × (result.end ≤ length line.now) }
@@ -43,7 +58,7 @@ pub(crate) fn field_at(line: &[u8], at: usize) -> Field
         return no_field();
     }
     let start = at + 1;
-    let end = bytes::scan::find(line, start, line.len(), b' ');
+    let end = space_from(line, start);
     Field {
         start,
         end,

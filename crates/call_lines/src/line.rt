@@ -5,7 +5,7 @@ ghost use Rattle.std.specs.Prelude.{◌≤◌, ◌<◌, length};
 const TOO_LONG: usize = usize::MAX;
 
 // How far the input was taken, how many bytes of a line are held then, and whether its end was met.
-#[derive(Drop)]
+#[derive(Clone, Copy)]
 pub struct Taken {
     pub next: usize,
     pub held: usize,
