@@ -3,10 +3,10 @@
 
 mod serve;
 
-fn main() {
+fn main(rt: HostRuntime) {
     let mut input = [0u8; 65536];
     let mut line = [0u8; 131072];
     let mut book = [0u8; 524288];
     let mut out = [0u8; 65536];
-    serve::serve(&mut input, &mut line, &mut book, &mut out);
+    serve::serve(&rt, &mut input, &mut line, &mut book, &mut out);
 }

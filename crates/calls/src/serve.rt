@@ -4,10 +4,10 @@ ghost use Rattle.std.specs.Prelude.{◌≤◌, length};
 use call_answers::say;
 use call_lines::line::take;
 use kept_book::run::{State, answer};
-use libc::STDIN_FILENO;
+use std::io::Read;
 
 // How much is held of the line that is being read, of the book, and of what is to be written.
-#[derive(Drop)]
+#[derive(Clone, Copy)]
 struct Held {
     line: usize,
     book: usize,
@@ -17,6 +17,7 @@ struct Held {
 
 // Answers a line of `held` bytes.
 fn answer_line(
+    rt: &impl Print,
     line: &mut [u8],
     held: usize,
     book: &mut [u8],
@@ -28,18 +29,25 @@ fn answer_line(
     ensures { result.len ≤ length book.old }
 {
     if line.len() < held {
-        let used = say::text(out, used, b"bad\n");
+        let used = say::text(rt, out, used, b"bad\n");
         return State { len, used };
     }
-    let state = answer(&mut line[0..held], book, len, out, used);
+    let state = answer(rt, &mut line[0..held], book, len, out, used);
     State {
         len: state.len,
-        used: say::byte(out, state.used, b'\n'),
+        used: say::byte(rt, out, state.used, b'\n'),
     }
 }
 
 // Answers every line that ends in this input.
-fn answer_lines(input: &[u8], line: &mut [u8], book: &mut [u8], out: &mut [u8], held: Held) -> Held
+fn answer_lines(
+    rt: &impl Print,
+    input: &[u8],
+    line: &mut [u8],
+    book: &mut [u8],
+    out: &mut [u8],
+    held: Held,
+) -> Held
     requires { (held.book ≤ length book.old) × (length line.old ≤ 131072) }
     ensures { result.book ≤ length book.old }
 {
@@ -52,7 +60,7 @@ fn answer_lines(input: &[u8], line: &mut [u8], book: &mut [u8], out: &mut [u8], 
         from = taken.next;
         n = taken.held;
         if taken.is_whole {
-            let state = answer_line(line, n, book, len, out, used);
+            let state = answer_line(rt, line, n, book, len, out, used);
             n = 0;
             len = state.len;
             used = state.used;
@@ -67,7 +75,7 @@ fn answer_lines(input: &[u8], line: &mut [u8], book: &mut [u8], out: &mut [u8], 
 }
 
 // At the end of the input a line may be left.
-fn finish(line: &mut [u8], book: &mut [u8], out: &mut [u8], held: Held) -> Held
+fn finish(rt: &impl Print, line: &mut [u8], book: &mut [u8], out: &mut [u8], held: Held) -> Held
     requires { (held.book ≤ length book.old) × (length line.old ≤ 131072) }
     ensures { result.book ≤ length book.old }
 {
@@ -79,26 +87,34 @@ fn finish(line: &mut [u8], book: &mut [u8], out: &mut [u8], held: Held) -> Held
             is_open: false,
         };
     }
-    let state = answer_line(line, held.line, book, held.book, out, held.out);
+    let state = answer_line(rt, line, held.line, book, held.book, out, held.out);
     Held {
         line: 0,
         book: state.len,
-        out: say::flush(out, state.used),
+        out: say::flush(rt, out, state.used),
         is_open: false,
     }
 }
 
-// One read, and the answers to its lines.
-fn turn(input: &mut [u8], line: &mut [u8], book: &mut [u8], out: &mut [u8], held: Held) -> Held
+// One read, and the answers to its lines. A read that fails is the end of the input.
+fn turn(
+    rt: &impl Print,
+    reader: &mut impl Read,
+    input: &mut [u8],
+    line: &mut [u8],
+    book: &mut [u8],
+    out: &mut [u8],
+    held: Held,
+) -> Held
     requires { (held.book ≤ length book.old) × (length line.old ≤ 131072) }
     ensures { result.book ≤ length book.old }
 {
-    let n = io::count(libc::read(STDIN_FILENO, input), input);
+    let n = reader.read(input).unwrap_or(0);
     if n == 0 {
-        return finish(line, book, out, held);
+        return finish(rt, line, book, out, held);
     }
-    let held = answer_lines(&input[..n], line, book, out, held);
-    let used = say::flush(out, held.out);
+    let held = answer_lines(rt, &input[..n], line, book, out, held);
+    let used = say::flush(rt, out, held.out);
     Held {
         line: held.line,
         book: held.book,
@@ -108,7 +124,13 @@ fn turn(input: &mut [u8], line: &mut [u8], book: &mut [u8], out: &mut [u8], held
 }
 
 // Nothing says that the input ends, and a proved loop has to: so the turns are counted down, from a number that no run uses up.
-pub(crate) fn serve(input: &mut [u8], line: &mut [u8], book: &mut [u8], out: &mut [u8])
+pub(crate) fn serve(
+    rt: &(impl Input + Print),
+    input: &mut [u8],
+    line: &mut [u8],
+    book: &mut [u8],
+    out: &mut [u8],
+)
     requires { length line.old ≤ 131072 }
 {
     let mut held = Held {
@@ -117,9 +139,10 @@ pub(crate) fn serve(input: &mut [u8], line: &mut [u8], book: &mut [u8], out: &mu
         out: 0,
         is_open: true,
     };
+    let mut reader = rt.reader();
     let mut turns = u64::MAX;
     while turns > 0 && held.is_open {
-        held = turn(input, line, book, out, held);
+        held = turn(rt, &mut reader, input, line, book, out, held);
         turns -= 1;
     }
 }

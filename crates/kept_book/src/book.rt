@@ -6,7 +6,7 @@ use memory_layout::parts::fill;
 use raw_table::insert::overwrite;
 
 // The book's length afterwards, and whether the call was one that can be made.
-#[derive(Drop)]
+#[derive(Clone, Copy)]
 pub(crate) struct Changed {
     pub len: usize,
     pub is_done: bool,
@@ -84,8 +84,8 @@ fn fnv(bytes: &[u8]) -> u64 {
     state
 }
 
-pub(crate) fn say_sum(book: &[u8], out: &mut [u8], used: usize) -> usize {
+pub(crate) fn say_sum(rt: &impl Print, book: &[u8], out: &mut [u8], used: usize) -> usize {
     let mut digits = [0u8; 16];
     let n = io::hex(fnv(book), 16, &mut digits);
-    say::text(out, used, &digits[..n])
+    say::text(rt, out, used, &digits[..n])
 }

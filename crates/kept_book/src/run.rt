@@ -8,7 +8,7 @@ use call_lines::call::{Call, read_call};
 use raw_table::insert::overwrite;
 
 // The book's length, and how many bytes are held to be written.
-#[derive(Drop)]
+#[derive(Clone, Copy)]
 pub struct State {
     pub len: usize,
     pub used: usize,
@@ -43,17 +43,18 @@ fn change(call: Call, a: usize, b: usize, content: &[u8], book: &mut [u8], len: 
     }
 }
 
-fn say_changed(changed: Changed, out: &mut [u8], used: usize) -> usize {
+fn say_changed(rt: &impl Print, changed: Changed, out: &mut [u8], used: usize) -> usize {
     if changed.is_done {
-        let used = say::text(out, used, b"ok");
-        say::field(out, used, changed.len)
+        let used = say::text(rt, out, used, b"ok");
+        say::field(rt, out, used, changed.len)
     } else {
-        say::text(out, used, b"bad")
+        say::text(rt, out, used, b"bad")
     }
 }
 
 // The third buffer is a copy, for the key and the value are parts of the same line.
 fn insert(
+    rt: &impl Print,
     line: &[u8],
     k: usize,
     v: usize,
@@ -70,11 +71,12 @@ fn insert(
     overwrite(&mut old, 0, third);
     let key = part(line, 0, parts);
     let value = part(line, 1, parts);
-    table::say_insert(book, k, v, key, value, &mut old[0..end], out, used)
+    table::say_insert(rt, book, k, v, key, value, &mut old[0..end], out, used)
 }
 
 // The calls that leave the book as it is.
 fn ask(
+    rt: &impl Print,
     call: Call,
     k: usize,
     v: usize,
@@ -85,26 +87,33 @@ fn ask(
     used: usize,
 ) -> usize {
     match call {
-        Call::Open => table::say_open(book, k, v, out, used),
-        Call::Check => table::say_check(book, k, v, out, used),
-        Call::Find => table::say_find(book, k, v, key, out, used),
-        Call::Value => table::say_value(book, k, v, key, out, used),
-        Call::Next => table::say_next(book, k, v, n, out, used),
-        Call::Walk => table::say_walk(book, k, v, n, out, used),
-        Call::Hash => table::say_hash(key, out, used),
-        Call::Bytes => say::hex(out, used, book),
-        _ => book::say_sum(book, out, used),
+        Call::Open => table::say_open(rt, book, k, v, out, used),
+        Call::Check => table::say_check(rt, book, k, v, out, used),
+        Call::Find => table::say_find(rt, book, k, v, key, out, used),
+        Call::Value => table::say_value(rt, book, k, v, key, out, used),
+        Call::Next => table::say_next(rt, book, k, v, n, out, used),
+        Call::Walk => table::say_walk(rt, book, k, v, n, out, used),
+        Call::Hash => table::say_hash(rt, key, out, used),
+        Call::Bytes => say::hex(rt, out, used, book),
+        _ => book::say_sum(rt, book, out, used),
     }
 }
 
-fn init(numbers: &[u64; 5], book: &mut [u8], out: &mut [u8], used: usize) -> usize {
+fn init(
+    rt: &impl Print,
+    numbers: &[u64; 5],
+    book: &mut [u8],
+    out: &mut [u8],
+    used: usize,
+) -> usize {
     let k = numbers[0] as usize;
     let v = numbers[1] as usize;
     let slots = numbers[2] as usize;
-    table::say_init(book, k, v, slots, numbers[3], numbers[4], out, used)
+    table::say_init(rt, book, k, v, slots, numbers[3], numbers[4], out, used)
 }
 
 fn run(
+    rt: &impl Print,
     call: Call,
     line: &[u8],
     numbers: &[u64; 5],
@@ -126,31 +135,38 @@ fn run(
             let changed = change(call, a, b, first, book, len);
             State {
                 len: changed.len,
-                used: say_changed(changed, out, used),
+                used: say_changed(rt, changed, out, used),
             }
         }
         Call::Init => State {
             len,
-            used: init(numbers, &mut book[0..len], out, used),
+            used: init(rt, numbers, &mut book[0..len], out, used),
         },
         Call::Insert => State {
             len,
-            used: insert(line, a, b, parts, &mut book[0..len], out, used),
+            used: insert(rt, line, a, b, parts, &mut book[0..len], out, used),
         },
         _ => State {
             len,
-            used: ask(call, a, b, c, first, &book[0..len], out, used),
+            used: ask(rt, call, a, b, c, first, &book[0..len], out, used),
         },
     }
 }
 
 // The answer to a line, which is read in its own place. The line's end is not written.
-pub fn answer(line: &mut [u8], book: &mut [u8], len: usize, out: &mut [u8], used: usize) -> State
+pub fn answer(
+    rt: &impl Print,
+    line: &mut [u8],
+    book: &mut [u8],
+    len: usize,
+    out: &mut [u8],
+    used: usize,
+) -> State
     requires { (len ≤ length book.old) × (length line.old ≤ 131072) }
     ensures { result.len ≤ length book.old }
 {
     let mut numbers = [0u64; 5];
     let mut parts = [0usize; 6];
     let call = read_call(line, &mut numbers, &mut parts);
-    run(call, line, &numbers, &parts, book, len, out, used)
+    run(rt, call, line, &numbers, &parts, book, len, out, used)
 }
