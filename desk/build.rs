@@ -31,8 +31,15 @@ fn directory(variable: &str) -> PathBuf {
 
 /// What the archive is made of: cargo asks again when one of these changes.
 fn watch(root: &Path) {
-    for source in ["crates", "crates.txt", "rattle-kit", "tools/library"] {
+    for source in ["crates.txt", "rattle-kit", "tools/library"] {
         println!("cargo:rerun-if-changed={}", root.join(source).display());
+    }
+    // What a build leaves in a crate's `out` is newer than this very run too.
+    let crates = std::fs::read_dir(root.join("crates")).into_iter().flatten().flatten();
+    for part in crates.flat_map(|entry| ["src", "specs", "proofs"].map(|part| entry.path().join(part))) {
+        if part.is_dir() {
+            println!("cargo:rerun-if-changed={}", part.display());
+        }
     }
     for variable in ["TALLY_LIBRARY", "TALLY_PROCESSOR"] {
         println!("cargo:rerun-if-env-changed={variable}");

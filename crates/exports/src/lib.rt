@@ -1,5 +1,5 @@
 // The calls for Rust or C. A slice is a pointer and a length, and an answer is eight numbers: outcome, row, slot, expected, found, count, offset, length.
-// Each returns 0, or 1 where the length of `answer` is not 8, and then nothing was done. Find and insert, the hot ones, are crates of their own.
+// Each returns 0, or 1 where the length of `answer` is not 8, and then nothing was done. `exports_c` exports them; find and insert, the hot ones, are crates of their own.
 #![tactic(auto)]
 
 ghost use Rattle.std.specs.Prelude.{◌≡◌};
@@ -17,8 +17,7 @@ use raw_slots::open::open;
 pub mod numbers;
 pub mod value;
 
-#[unsafe(no_mangle)]
-pub extern "C" fn tally_init(
+pub fn tally_init(
     book: &mut [u8],
     k: usize,
     v: usize,
@@ -41,8 +40,7 @@ pub extern "C" fn tally_init(
     0
 }
 
-#[unsafe(no_mangle)]
-pub extern "C" fn tally_open(book: &[u8], k: usize, v: usize, answer: &mut [u64]) -> u64
+pub fn tally_open(book: &[u8], k: usize, v: usize, answer: &mut [u64]) -> u64
     ensures status { result ≡ returned answer.old }
     ensures answer_after { answer.new ≡ holds answer.old (numbers (open_answer book.now k v)) answer.old }
 {
@@ -54,8 +52,7 @@ pub extern "C" fn tally_open(book: &[u8], k: usize, v: usize, answer: &mut [u64]
 }
 
 // The whole book.
-#[unsafe(no_mangle)]
-pub extern "C" fn tally_check(book: &[u8], k: usize, v: usize, answer: &mut [u64]) -> u64
+pub fn tally_check(book: &[u8], k: usize, v: usize, answer: &mut [u64]) -> u64
     ensures status { result ≡ returned answer.old }
     ensures answer_after { answer.new ≡ holds answer.old (numbers (check_answer book.now k v)) answer.old }
 {
@@ -67,14 +64,7 @@ pub extern "C" fn tally_check(book: &[u8], k: usize, v: usize, answer: &mut [u64
 }
 
 // Find's numbers, with the offset of the value in the book and its length; both 0 where there is none.
-#[unsafe(no_mangle)]
-pub extern "C" fn tally_value(
-    book: &[u8],
-    k: usize,
-    v: usize,
-    key: &[u8],
-    answer: &mut [u64],
-) -> u64
+pub fn tally_value(book: &[u8], k: usize, v: usize, key: &[u8], answer: &mut [u64]) -> u64
     ensures status { result ≡ returned answer.old }
     ensures answer_after { answer.new ≡ holds answer.old (value_numbers k v (find_answer book.now k v key.now)) answer.old }
 {
@@ -86,14 +76,7 @@ pub extern "C" fn tally_value(
 }
 
 // The next occupied slot at or after `from`, with its control byte in `found`.
-#[unsafe(no_mangle)]
-pub extern "C" fn tally_next(
-    book: &[u8],
-    k: usize,
-    v: usize,
-    from: usize,
-    answer: &mut [u64],
-) -> u64
+pub fn tally_next(book: &[u8], k: usize, v: usize, from: usize, answer: &mut [u64]) -> u64
     ensures status { result ≡ returned answer.old }
     ensures answer_after { answer.new ≡ holds answer.old (numbers (next_answer book.now k v from)) answer.old }
 {
