@@ -40,12 +40,14 @@ fn told(outcome: u64, row: usize, slot: usize, expected: u8, found: u8, count: u
     ]
 }
 
+#[tactic(auto, unfolding(crate::specs::Numbers::numbers, memory_layout::specs::Said::said_refusal))]
 fn of_refusal(r: Refusal) -> [u64; 8]
     ensures { result ≡ numbers (refused (said_refusal r)) }
 {
     told(0, r.row, r.slot, r.expected, r.found, r.count)
 }
 
+#[tactic(auto, unfolding(crate::specs::Numbers::numbers, memory_layout::specs::Said::said_made))]
 pub fn of_made(answer: Made) -> [u64; 8]
     ensures { result ≡ numbers (said_made answer) }
 {
@@ -55,6 +57,7 @@ pub fn of_made(answer: Made) -> [u64; 8]
     }
 }
 
+#[tactic(auto, unfolding(crate::specs::Numbers::numbers, raw_slots::specs::SaidOpen::said_opened))]
 pub fn of_opened(answer: Opened) -> [u64; 8]
     ensures { result ≡ numbers (said_opened answer) }
 {
@@ -64,6 +67,7 @@ pub fn of_opened(answer: Opened) -> [u64; 8]
     }
 }
 
+#[tactic(auto, unfolding(crate::specs::Numbers::numbers, book_check::specs::Said::said_verdict))]
 pub fn of_verdict(answer: Verdict) -> [u64; 8]
     ensures { result ≡ numbers (said_verdict answer) }
 {
@@ -73,6 +77,7 @@ pub fn of_verdict(answer: Verdict) -> [u64; 8]
     }
 }
 
+#[tactic(auto, unfolding(crate::specs::Numbers::numbers))]
 pub fn of_found(answer: Found) -> [u64; 8]
     ensures { result ≡ numbers (said_found answer) }
 {
@@ -83,6 +88,7 @@ pub fn of_found(answer: Found) -> [u64; 8]
     }
 }
 
+#[tactic(auto, unfolding(crate::specs::Numbers::numbers))]
 pub fn of_inserted(answer: Inserted) -> [u64; 8]
     ensures { result ≡ numbers (said_inserted answer) }
 {
@@ -93,6 +99,7 @@ pub fn of_inserted(answer: Inserted) -> [u64; 8]
     }
 }
 
+#[tactic(auto, unfolding(crate::specs::Numbers::numbers, raw_slots::specs::SaidIter::said_next))]
 pub fn of_next(answer: Next) -> [u64; 8]
     ensures { result ≡ numbers (said_next answer) }
 {

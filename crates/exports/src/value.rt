@@ -9,6 +9,7 @@ use memory_layout::kinds::{Slot, value_offset};
 use raw_table::find::{Found, find};
 
 // 0 where values have no bytes.
+#[tactic(auto, unfolding(crate::specs::Numbers::offset_of))]
 fn offset_of(slot: Slot, k: usize, v: usize) -> usize
     requires { Sizes k v × (slot.0 < 2 ^ 20) }
     ensures { result ≡ offset_of k v slot.0 }
@@ -19,6 +20,7 @@ fn offset_of(slot: Slot, k: usize, v: usize) -> usize
     value_offset(slot, k, v).0
 }
 
+#[tactic(auto, unfolding(crate::specs::Numbers::value_numbers, crate::specs::Numbers::numbers))]
 pub fn value_numbers(book: &[u8], k: usize, v: usize, key: &[u8]) -> [u64; 8]
     ensures { result ≡ value_numbers k v (find_answer book.now k v key.now) }
 {
