@@ -1,5 +1,4 @@
-// Find for Rust or C. A crate of its own:
-// compiled by itself, it is the only caller of the search, which the compiler then puts in its place.
+// Find for Rust or C, a crate of its own. `exports_find_c` exports it.
 #![tactic(auto)]
 
 ghost use Rattle.std.specs.Prelude.{◌≡◌};
@@ -9,8 +8,7 @@ ghost use Rattle.exports.specs.Numbers.{numbers, returned, holds};
 use exports::numbers::{of_found, store};
 use raw_table::find::find;
 
-#[unsafe(no_mangle)]
-pub extern "C" fn tally_find(book: &[u8], k: usize, v: usize, key: &[u8], answer: &mut [u64]) -> u64
+pub fn tally_find(book: &[u8], k: usize, v: usize, key: &[u8], answer: &mut [u64]) -> u64
     ensures status { result ≡ returned answer.old }
     ensures answer_after { answer.new ≡ holds answer.old (numbers (find_answer book.now k v key.now)) answer.old }
 {

@@ -1,5 +1,4 @@
-// Insert for Rust or C. A crate of its own:
-// compiled by itself, it is the only caller of the search, which the compiler then puts in its place.
+// Insert for Rust or C, a crate of its own. `exports_insert_c` exports it.
 #![tactic(auto)]
 
 ghost use Rattle.std.specs.Prelude.{◌≡◌};
@@ -10,8 +9,7 @@ use exports::numbers::{of_inserted, store};
 use raw_table::insert::insert;
 
 // `old` has as many bytes as a value: what is replaced is left there.
-#[unsafe(no_mangle)]
-pub extern "C" fn tally_insert(
+pub fn tally_insert(
     book: &mut [u8],
     k: usize,
     v: usize,
