@@ -94,6 +94,7 @@ fn lowest_twin(book: &[u8], k: usize, v: usize, slots: usize) -> Fault
     Fault::Nothing
 }
 
+#[tactic(auto, using(crate::proofs::TwinLaws::no_twins), unfolding(raw_slots::specs::SaidOpen::said_fault, rules::specs::Rows::row_at))]
 pub(crate) fn twin_row(book: &[u8], k: usize, v: usize, slots: usize) -> Fault
     requires { Passed book.now k v slots }
     ensures { said_fault result ≡ row_at 16 (first_of (is_twin book.now k v slots) (numbers 0 slots)) }

@@ -98,7 +98,8 @@ fn hash_any(bytes: &[u8]) -> u32
         h = add_to_hash(h, wide64(read_u32(bytes, i)));
         i += 4;
     }
-    if bytes.len() - i >= 2 {
+    let has_two = bytes.len() - i >= 2;
+    if has_two {
         h = add_to_hash(h, wide64(wide32(read_u16(bytes, i))));
         i += 2;
     }

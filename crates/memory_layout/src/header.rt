@@ -36,7 +36,8 @@ pub(crate) fn are_sizes(k: usize, v: usize) -> bool
 pub fn is_slot_count(n: u64) -> bool
     ensures { result ≡ is_slot_count n }
 {
-    if n > 15 {
+    let is_enough = n > 15;
+    if is_enough {
         return (n & (n - 1) == 0) & (n <= SLOT_LIMIT);
     }
     false
@@ -107,7 +108,8 @@ fn header_row(book: &[u8], k: usize, v: usize) -> usize
     if !are_sizes(k, v) {
         return 1;
     }
-    if book.len() < 32 {
+    let is_short = book.len() < 32;
+    if is_short {
         return 2;
     }
     stated_row(book, k, v)

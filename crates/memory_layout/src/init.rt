@@ -71,7 +71,8 @@ pub fn init_in_place(
         return Made::Refused(refusal::of_row(1));
     }
     let row = size_row(book.len(), k, v, slots as u64);
-    if row != 0 {
+    let is_refused = row != 0;
+    if is_refused {
         return Made::Refused(refusal::of_row(row));
     }
     write_book(book, k, v, slots, items, load);

@@ -40,7 +40,8 @@ pub fn set_control(book: &mut [u8], slot: Slot, k: usize, v: usize, slots: usize
 {
     let at = control_offset(control_of(slot), k, v, slots).0;
     book[at] = h2;
-    if slot.0 < 16 {
+    let has_mirror = slot.0 < 16;
+    if has_mirror {
         let mirror = control_offset(mirror_of(slot, slots), k, v, slots).0;
         book[mirror] = h2;
     }

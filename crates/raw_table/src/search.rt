@@ -132,7 +132,8 @@ pub fn search(book: &[u8], key: &[u8], k: usize, v: usize, slots: usize) -> Spot
     let mut n: usize = 0;
     let p = ps.index;
     let query = query_at(book, Position(p), h2, k, v, slots);
-    if query.eq != 0 {
+    let has_candidate = query.eq != 0;
+    if has_candidate {
         let slot = slot_of(Position(p), lowest_of(query.eq), slots);
         if holds(book, slot, key, k, v, slots) {
             return Spot::Same(slot, 1);

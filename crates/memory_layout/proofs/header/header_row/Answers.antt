@@ -22,11 +22,11 @@ returns-then-not-are_sizes c =
 sized : (c : Else-not-are_sizes) → are_sizes c.args.k c.args.v ≡ true
 sized c = sym c.are_sizes.ensures ∙ c.if-not-are_sizes.false
 
-pub returns-then-book-lt32 : goal.returns-then-book-lt32
+pub returns-then-is_short : goal.returns-then-is_short
 unfolding numbered header_rows
-returns-then-book-lt32 c =
+returns-then-is_short c =
     let s = c.args.book.now in
-    simp (first_if, sized (goal.at.returns-then-book-lt32 c).Else-not-are_sizes, lt-ltb (length s) 32 c.if-book-lt32.true)
+    simp (first_if, sized (goal.at.returns-then-is_short c).Else-not-are_sizes, lt-ltb (length s) 32 c.if-is_short.true)
 
 pub stated_row-requires : goal.stated_row-requires
 stated_row-requires c =
@@ -37,4 +37,4 @@ pub returns : goal.returns
 unfolding header_rows
 returns c =
     let s = c.args.book.now in
-    c.stated_row.ensures ∙ sym (simp (first_if, sized (goal.at.returns c).Else-not-are_sizes, le-ltb (length s) 32 c.if-book-lt32.false))
+    c.stated_row.ensures ∙ sym (simp (first_if, sized (goal.at.returns c).Else-not-are_sizes, le-ltb (length s) 32 c.if-is_short.false))

@@ -5,9 +5,9 @@ use Rattle.rules.specs.Layout.{slot_limit}
 use Rattle.rules.proofs.LayoutLaws.{count_test, count_least}
 use Rattle.memory_layout.proofs.header.is_slot_count.Goals as goal
 
-pub returns-then-n-gt15 : goal.returns-then-n-gt15
+pub returns-then-is_enough : goal.returns-then-is_enough
 unfolding slot_limit
-returns-then-n-gt15 c = count_test c.args.n (omega arith) (omega arith)
+returns-then-is_enough c = count_test c.args.n (omega arith) (omega arith)
 
 pub returns : goal.returns
 returns c = sym (count_least c.args.n (omega arith))

@@ -33,19 +33,19 @@ later : (c : After-size_row-row)
 unfolding init_rows size_rows
 later c = rw c.size_row-row.ensures (simp (first_if, sized (goal.at.After-size_row-row c).Else-not-are_sizes))
 
-pub returns-then-row-ne0 : goal.returns-then-row-ne0
+pub returns-then-is_refused : goal.returns-then-is_refused
 unfolding said_made init_answer init_book by_rows
-returns-then-row-ne0 c =
-    let e = later (goal.at.returns-then-row-ne0 c).After-size_row-row ∙ a_row c.size_row-row.result c.if-row-ne0.true in
-    record { answered = rw (c.of_row-then-row-ne0.ensures, e); book_after = rw e }
+returns-then-is_refused c =
+    let e = later (goal.at.returns-then-is_refused c).After-size_row-row ∙ a_row c.size_row-row.result c.if-is_refused.true in
+    record { answered = rw (c.of_row-then-is_refused.ensures, e); book_after = rw e }
 
 pub write_book-requires : goal.write_book-requires
 write_book-requires c =
     let a = c.args in
-    init_passed a.book.now a.k a.v a.slots (later (goal.at.write_book-requires c).After-size_row-row ∙ no_row c.size_row-row.result c.if-row-ne0.false)
+    init_passed a.book.now a.k a.v a.slots (later (goal.at.write_book-requires c).After-size_row-row ∙ no_row c.size_row-row.result c.if-is_refused.false)
 
 pub returns : goal.returns
 unfolding said_made init_answer init_book by_rows
 returns c =
-    let e = later (goal.at.returns c).After-size_row-row ∙ no_row c.size_row-row.result c.if-row-ne0.false in
+    let e = later (goal.at.returns c).After-size_row-row ∙ no_row c.size_row-row.result c.if-is_refused.false in
     record { answered = rw e; book_after = rw e c.write_book.ensures }

@@ -18,16 +18,16 @@ slot_at c =
 pub bounds-book-mirror : goal.bounds-book-mirror
 bounds-book-mirror c = simp length-set (omega (arith, c.control_offset-mirror.ensures, c.mirror_of.ensures, c.requires.0.long))
 
-pub returns-then-slot-lt16 : goal.returns-then-slot-lt16
+pub returns-then-has_mirror : goal.returns-then-has_mirror
 unfolding set_control
-returns-then-slot-lt16 c =
+returns-then-has_mirror c =
     let a = c.args in
-    rw (lt-ltb a.slot.0 16 c.if-slot-lt16.true)
-    (ap₂ (λ (i j : ℕ). set (set a.book.now i a.h2) j a.h2) (slot_at (goal.at.returns-then-slot-lt16 c).After-control_offset-at)
+    rw (lt-ltb a.slot.0 16 c.if-has_mirror.true)
+    (ap₂ (λ (i j : ℕ). set (set a.book.now i a.h2) j a.h2) (slot_at (goal.at.returns-then-has_mirror c).After-control_offset-at)
     (c.control_offset-mirror.ensures ∙ ap (control_at a.k a.v a.slots) c.mirror_of.ensures))
 
-pub returns-else-slot-lt16 : goal.returns-else-slot-lt16
+pub returns-else-has_mirror : goal.returns-else-has_mirror
 unfolding set_control
-returns-else-slot-lt16 c =
+returns-else-has_mirror c =
     let a = c.args in
-    rw (le-ltb a.slot.0 16 c.if-slot-lt16.false) (ap (λ (i : ℕ). set a.book.now i a.h2) (slot_at (goal.at.returns-else-slot-lt16 c).After-control_offset-at))
+    rw (le-ltb a.slot.0 16 c.if-has_mirror.false) (ap (λ (i : ℕ). set a.book.now i a.h2) (slot_at (goal.at.returns-else-has_mirror c).After-control_offset-at))

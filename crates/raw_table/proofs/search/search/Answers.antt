@@ -18,7 +18,7 @@ use Rattle.raw_table.specs.Seq.{seq_at}
 use Rattle.raw_table.proofs.SeqLaws.{seq_stands, seq_room}
 use Rattle.raw_table.proofs.TurnLaws.{Left, group_long, all_left, none_left, lowest_lt, tried_yes}
 use Rattle.raw_table.proofs.search.search.Goals as goal
-use Rattle.raw_table.proofs.search.search.Goals.{After-first_empty, After-new-ps, After-query_at-query, Else-query-ne0, In-At, Joined-query-ne0, else-query-ne0+in_default, then-query-ne0+else-holds}
+use Rattle.raw_table.proofs.search.search.Goals.{After-first_empty, After-new-ps, After-query_at-query, Else-has_candidate, In-At, Joined-has_candidate, else-has_candidate+in_default, then-has_candidate+else-holds}
 
 -- the probe before its first group, and where that starts
 begun : (c : After-new-ps) → c.new-ps.result ≡ seq_at (start_of c.args.slots c.args.key.now) c.args.slots 0
@@ -45,10 +45,10 @@ left_is c =
     (c.query_at-query.ensures.0 ∙ ap (λ (h : ℕ). word (reports h (group_at 8 a.book.now a.k a.v a.slots p))) (tag_is (goal.at.After-query_at-query c).After-new-ps))
 
 -- there is none
-no_key : (c : Else-query-ne0) → equal_key 8 reports c.args.book.now c.args.k c.args.v c.args.slots c.args.key.now c.new-ps.result.index ≡ none
+no_key : (c : Else-has_candidate) → equal_key 8 reports c.args.book.now c.args.k c.args.v c.args.slots c.args.key.now c.new-ps.result.index ≡ none
 no_key c =
     let a = c.args in
-    none_left a.book.now a.key.now a.k a.v a.slots c.new-ps.result.index c.query_at-query.result.eq (left_is (goal.at.Else-query-ne0 c).After-query_at-query) c.if-query-ne0.false
+    none_left a.book.now a.key.now a.k a.v a.slots c.new-ps.result.index c.query_at-query.result.eq (left_is (goal.at.Else-has_candidate c).After-query_at-query) c.if-has_candidate.false
 
 -- what the query says of the group's empty positions
 empty_is : (c : After-first_empty)
@@ -64,22 +64,22 @@ hole_is : (c : In-At)
 hole_is c = sym (empty_is (goal.at.In-At c).After-first_empty) ∙ ap said_first c.in-At.is
 
 -- where the ways past the first group meet, the rest of the search is still to come
-joined : (c : Joined-query-ne0)
-    → (c.if-query-ne0.n ≤ c.args.slots / 8)
-    × (c.if-query-ne0.ps ≡ seq_at (start_of c.args.slots c.args.key.now) c.args.slots c.if-query-ne0.n)
+joined : (c : Joined-has_candidate)
+    → (c.if-has_candidate.n ≤ c.args.slots / 8)
+    × (c.if-has_candidate.ps ≡ seq_at (start_of c.args.slots c.args.key.now) c.args.slots c.if-has_candidate.n)
     × (spot_of c.args.book.now c.args.k c.args.v c.args.slots c.args.key.now
-    ≡ Rest 8 reports c.args.book.now c.args.k c.args.v c.args.slots c.args.key.now (c.args.slots / 8) c.if-query-ne0.n)
+    ≡ Rest 8 reports c.args.book.now c.args.k c.args.v c.args.slots c.args.key.now (c.args.slots / 8) c.if-has_candidate.n)
 joined c =
     let a = c.args in
     let b = start_of a.slots a.key.now in
     let whole = at_start 8 reports a.book.now a.k a.v a.slots a.key.now in
-    let t = goal.at.Joined-query-ne0 c in
+    let t = goal.at.Joined-has_candidate c in
     let p = c.new-ps.result.index in
     let group = group_at 8 a.book.now a.k a.v a.slots p in
-    elim c.if-query-ne0.branch [
-      | then-query-ne0+else-holds w ↦ (omega (arith, w.n-is), rw (w.ps-is, w.n-is) (begun t.After-new-ps), rw w.n-is whole)
-      | else-query-ne0+in_default w ↦
-          let key = none_left a.book.now a.key.now a.k a.v a.slots p c.query_at-query.result.eq (left_is t.After-query_at-query) w.if-query-ne0.false in
+    elim c.if-has_candidate.branch [
+      | then-has_candidate+else-holds w ↦ (omega (arith, w.n-is), rw (w.ps-is, w.n-is) (begun t.After-new-ps), rw w.n-is whole)
+      | else-has_candidate+in_default w ↦
+          let key = none_left a.book.now a.key.now a.k a.v a.slots p c.query_at-query.result.eq (left_is t.After-query_at-query) w.if-has_candidate.false in
           let hole = w.first_empty.ensures group (group_long a.book.now a.key.now a.k a.v a.slots p c.requires (stands t.After-new-ps).1) c.query_at-query.ensures.1 in (
             omega (arith, some_group t.After-new-ps),
             rw (w.ps-is, w.n-is) (w.advance-ps.ensures b 0 (begun t.After-new-ps)),
@@ -118,7 +118,7 @@ pub returns-in-At : goal.returns-in-At
 returns-in-At c =
     let a = c.args in
     ap (λ (i : ℕ). free i 1) c.slot_of.ensures.0
-    ∙ sym (at_start 8 reports a.book.now a.k a.v a.slots a.key.now ∙ at_free 8 reports a.book.now a.k a.v a.slots a.key.now (a.slots / 8) 0 c.new-ps.result.index (some_group (goal.at.returns-in-At c).After-new-ps) (stands (goal.at.returns-in-At c).After-new-ps).0 c.in-At.m (no_key (goal.at.returns-in-At c).Else-query-ne0) (hole_is (goal.at.returns-in-At c).In-At))
+    ∙ sym (at_start 8 reports a.book.now a.k a.v a.slots a.key.now ∙ at_free 8 reports a.book.now a.k a.v a.slots a.key.now (a.slots / 8) 0 c.new-ps.result.index (some_group (goal.at.returns-in-At c).After-new-ps) (stands (goal.at.returns-in-At c).After-new-ps).0 c.in-At.m (no_key (goal.at.returns-in-At c).Else-has_candidate) (hole_is (goal.at.returns-in-At c).In-At))
 
 pub advance-ps-requires : goal.advance-ps-requires
 advance-ps-requires c =
@@ -130,4 +130,4 @@ pub search_from-requires : goal.search_from-requires
 search_from-requires c = let j = joined c in (c.requires, tag_is (goal.at.search_from-requires c).After-new-ps, j.0, j.1)
 
 pub returns : goal.returns
-returns c = c.search_from.ensures ∙ sym (joined (goal.at.returns c).Joined-query-ne0).2
+returns c = c.search_from.ensures ∙ sym (joined (goal.at.returns c).Joined-has_candidate).2
