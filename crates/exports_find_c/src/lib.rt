@@ -1,5 +1,5 @@
 // Find, exported for Rust or C. A crate of its own:
-// compiled by itself, it is the only caller of the search, which the compiler then puts in its place.
+// compiled by itself, it is the only caller of the search, which the compiler may then put in its place.
 #![tactic(auto)]
 
 ghost use Rattle.std.specs.Prelude.{◌≡◌};
