@@ -1,6 +1,6 @@
--- What a caller of `check_header` learns of the book: from the slot count that it passed, from the refusal the first row that applies.
+-- What a caller of `check_header` or `Table::open` learns of the book: from the slot count that it passed, from the refusal the first row that applies.
 -- Assumes nothing.
-use mathlib.Core.Path.{◌≡◌, refl, sym, ap, ◌∙◌}
+use mathlib.Core.Path.{◌≡◌, refl}
 use mathlib.Core.List.{List}
 use mathlib.Core.Option.{Option, none, some}
 use Prim.Native.Nat.{ℕ}
@@ -12,11 +12,8 @@ use Rattle.rules.specs.Calls.{by_rows}
 use Rattle.rules.specs.Bounds.{Passed}
 use Rattle.rules.proofs.TestLaws.{impossible}
 use Rattle.rules.proofs.RowLaws as row_laws
-use Rattle.memory_layout.specs.declared.refusal.Refusal.{Refusal}
-use Rattle.memory_layout.specs.declared.header.Header.{Header}
-use Rattle.memory_layout.specs.declared.header.Header.TheVariants.{Slots, Refused}
+use Rattle.memory_layout.specs.declared.table.Table.{Table}
 use Rattle.memory_layout.specs.Checked.{passed, failed, checked}
-use Rattle.memory_layout.specs.Said.{said_refusal, said_header}
 
 pub record Checks (s : List ℕ) (k v n : ℕ) : Type 0 where
   pub passed : Passed s k v n
@@ -44,12 +41,6 @@ module _ (s : List ℕ) (k v : ℕ) where
   unfolding checked
   fails r e = by_failed (first_some (header_rows s k v)) (slot_count s) r e
 
-  -- the same of an answer that a `match` has taken apart
-  module _ (h : Header) (said : said_header h ≡ checked s k v) where
-    pub slots_checks : (n : ℕ) → h ≡ Slots n → Checks s k v n
-    unfolding said_header
-    slots_checks n e = checks n (sym said ∙ ap said_header e)
-
-    pub refused_fails : (r : Refusal) → h ≡ Refused r → first_some (header_rows s k v) ≡ some (said_refusal r)
-    unfolding said_header
-    refused_fails r e = fails (said_refusal r) (sym said ∙ ap said_header e)
+-- a table passed rows 1, 9 and 10, and its bytes are as long as the rules say
+pub passed_in : (t : Table) → Passed t.bytes.now t.sizes.k t.sizes.v t.slots.n
+passed_in t = record { sizes = t.sizes.in_range; slots = t.slots.is_count; long = t.long }

@@ -1,5 +1,4 @@
-pub mod RowNumbers
-pub mod CheckedLaws
-pub mod SaidLaws
 pub mod PartLaws
+pub mod CheckedLaws
+pub mod TryLaws
 pub mod PassLaws

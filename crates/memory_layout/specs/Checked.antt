@@ -1,9 +1,9 @@
--- The rows of a header as one answer, and rows by their numbers.
-use Rattle.std.specs.Prelude.{ℕ, zero, suc, not, List, [], ◌∷◌, eqb}
-use Rattle.std.proofs.Math.Option.{Option, none, some}
+-- The rows of a header as one answer, and the two rows of a buffer's length.
+use Rattle.std.specs.Prelude.{ℕ, not, List, [], ◌∷◌, eqb}
+use Rattle.std.proofs.Math.Option.{Option}
 use Rattle.rules.specs.First.{first_some}
 use Rattle.rules.specs.Layout.{is_slot_count, slot_count, total}
-use Rattle.rules.specs.Rows.{Refusal, refusal, row_if, header_rows}
+use Rattle.rules.specs.Rows.{Refusal, row_if, header_rows}
 use Rattle.rules.specs.Calls.{by_rows}
 
 -- a book that passes rows 1 to 10 has its slot count
@@ -13,11 +13,6 @@ pub data Checked : Type 0 where
 
 unfoldable pub checked : List ℕ → ℕ → ℕ → Checked
 checked s k v = by_rows (first_some (header_rows s k v)) failed (passed (slot_count s))
-
--- the row with a number, 0 being none
-unfoldable pub numbered : ℕ → Option Refusal
-numbered zero = none
-numbered (suc n) = some (refusal (suc n))
 
 -- rows 9 and 10 of a buffer of a length
 unfoldable pub size_rows : ℕ → ℕ → ℕ → ℕ → List (Option Refusal)

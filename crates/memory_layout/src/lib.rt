@@ -4,5 +4,7 @@
 pub mod header;
 pub mod init;
 pub mod kinds;
+pub mod numbers;
 pub mod parts;
 pub mod refusal;
+pub mod table;

@@ -1,3 +1,4 @@
+pub mod BoundsLaws
 pub mod TestLaws
 pub mod BytesLaws
 pub mod FirstLaws

@@ -9,4 +9,4 @@ unfolding header le_bytes
 returns c =
     let a = c.args in
     rw (c.put-5.ensures, c.put-4.ensures, c.put-3.ensures, c.put-2.ensures, c.put.ensures, c.put_sizes.ensures)
-    (sets-eq (header a.k a.v a.slots a.items a.load) a.book.now 0 c.requires.1)
+    (sets-eq (header a.sizes.k a.sizes.v a.slots.n a.items a.load) a.book.now 0 c.requires)

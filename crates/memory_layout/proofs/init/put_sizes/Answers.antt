@@ -10,6 +10,6 @@ pub returns : goal.returns
 unfolding le_bytes
 returns c =
     let a = c.args in
-    let key : a.k % 256 ≡ a.k = mod-eq_of_lt (omega arith) in
-    let value : a.v % 256 ≡ a.v = mod-eq_of_lt (omega arith) in
+    let key : a.sizes.k % 256 ≡ a.sizes.k = mod-eq_of_lt (omega arith) in
+    let value : a.sizes.v % 256 ≡ a.sizes.v = mod-eq_of_lt (omega arith) in
     rw (c.put-5.ensures, c.put-4.ensures, c.put-3.ensures, c.put-2.ensures, c.put.ensures, key, value)
