@@ -1,9 +1,8 @@
 -- How marks of positions stand in a word, for any width: bit 0x80 of byte m for position m.
-use Rattle.std.specs.Prelude.{ℕ, ◌+◌, ◌*◌, Bool, true, false, List, [], ◌∷◌}
-use Rattle.std.proofs.Math.Option.{Option, none, some}
+use Rattle.std.specs.Prelude.{Option, Some, None, ℕ, ◌+◌, ◌*◌, Bool, true, false, List, [], ◌∷◌}
+use Rattle.std.proofs.Math.Option as Maybe
+use Rattle.std.proofs.Math.Option.{none, some}
 use Rattle.rules.specs.Layout.{is_empty}
-use Rattle.group_query.specs.declared.First.{First}
-use Rattle.group_query.specs.declared.First.TheVariants.{At, Nothing}
 
 -- 0x80 for a mark
 abbrev pub bit : Bool → ℕ
@@ -27,6 +26,6 @@ others (true ∷ ms) = false ∷ ms
 others (false ∷ ms) = false ∷ others ms
 
 -- the position that an answer tells
-abbrev pub said_first : First → Option ℕ
-said_first (At m) = some m
-said_first Nothing = none
+abbrev pub said_first : Option ℕ → Maybe.Option ℕ
+said_first (Some m) = some m
+said_first None = none

@@ -16,12 +16,6 @@ pub struct GroupQuery {
     pub empty: u64,
 }
 
-#[derive(Clone, Copy)]
-pub enum First {
-    At(usize),
-    Nothing,
-}
-
 fn wide(x: u8) -> u64
     ensures { (result ≡ x) × (result < 2 ^ 8) }
 {
@@ -78,13 +72,13 @@ impl GroupQuery {
         self.empty != 0
     }
 
-    pub fn first_empty(self) -> First
+    pub fn first_empty(self) -> Option<usize>
         ensures { (group : List ℕ) → length group ≡ 8 → self.empty ≡ word (empties group) → said_first result ≡ first_empty group }
     {
         let mask = self.empty;
         if mask == 0 {
-            return First::Nothing;
+            return None;
         }
-        First::At(lowest_byte(mask))
+        Some(lowest_byte(mask))
     }
 }

@@ -1,4 +1,5 @@
 pub mod SeqLaws
 pub mod TurnLaws
 pub mod WriteLaws
-pub mod SaidOnce
+pub mod WordLaws
+pub mod OpenLaws

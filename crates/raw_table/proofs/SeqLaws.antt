@@ -47,13 +47,13 @@ module _ (b S j : ℕ) (p : ProbeSeq) (e : p ≡ seq_at b S j) where
       (i, omega (arith, i, start_lt 8 b S j (omega (arith, s.least))))
 
   -- what a step asks for: none of its sums wraps while fewer than S / 8 groups were examined
-  pub seq_room : Slots S → b < S → j < S / 8 → Slots S × (p.base ≤ 2 ^ 40) × (p.chunk ≤ 8) × (p.stride ≤ 2 ^ 40)
+  pub seq_room : Slots S → b < S → j < S / 8 → (p.base ≤ 2 ^ 40) × (p.chunk ≤ 8) × (p.stride ≤ 2 ^ 40)
   seq_room s h l =
       let m = s.most in
       let k : j / 2 ≤ 2 ^ 16 = omega arith in
       let k' : j / 2 + 1 ≤ 2 ^ 17 = omega arith in
       let w : j / 2 * (j / 2 + 1) ≤ 2 ^ 16 * 2 ^ 17 = mul-le-mul k k' in
-      (s, omega (arith, base_is), omega (arith, chunk_is), omega (arith, stride_is))
+      (omega (arith, base_is), omega (arith, chunk_is), omega (arith, stride_is))
 
   module _ (i : ℕ) where
     -- after the second half of a pair comes the next pair

@@ -1,7 +1,9 @@
 -- What each answer of the code says in the rules' terms.
+use Rattle.std.specs.Prelude.{Result, Ok, Err}
 use Rattle.rules.specs.Search as Rule
 use Rattle.rules.specs.Calls as Calls
 use Rattle.rules.specs.Calls.{Answer}
+use Rattle.memory_layout.specs.declared.refusal.Refusal.{Refusal}
 use Rattle.memory_layout.specs.Said.{said_refusal}
 use Rattle.raw_table.specs.declared.search.Spot.{Spot}
 use Rattle.raw_table.specs.declared.search.Spot.TheVariants.{Same, Free, Full}
@@ -15,12 +17,12 @@ said_spot (Same s n) = Rule.same s.0 n
 said_spot (Free s n) = Rule.free s.0 n
 said_spot (Full n) = Rule.full n
 
-abbrev pub said_found : Found → Answer
-said_found (found.At s n) = Calls.at_slot s.0 n
-said_found (found.Absent n) = Calls.absent n
-said_found (found.Refused r) = Calls.refused (said_refusal r)
+abbrev pub said_found : Result Found Refusal → Answer
+said_found (Ok (found.At s n)) = Calls.at_slot s.0 n
+said_found (Ok (found.Absent n)) = Calls.absent n
+said_found (Err r) = Calls.refused (said_refusal r)
 
-abbrev pub said_inserted : Inserted → Answer
-said_inserted (inserted.New s n) = Calls.new s.0 n
-said_inserted (inserted.Replaced s n) = Calls.replaced s.0 n
-said_inserted (inserted.Refused r) = Calls.refused (said_refusal r)
+abbrev pub said_inserted : Result Inserted Refusal → Answer
+said_inserted (Ok (inserted.New s n)) = Calls.new s.0 n
+said_inserted (Ok (inserted.Replaced s n)) = Calls.replaced s.0 n
+said_inserted (Err r) = Calls.refused (said_refusal r)

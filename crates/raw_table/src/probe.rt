@@ -1,9 +1,8 @@
 // The order in which a search examines groups.
-ghost use Rattle.std.specs.Prelude.{◌≡◌, ℕ, suc, ◌%◌, ◌^◌, ◌≤◌, ◌<◌};
-ghost use Rattle.rules.specs.Bounds.{Slots};
+ghost use Rattle.std.specs.Prelude.{◌≡◌, ℕ, suc, ◌%◌, ◌^◌, ◌≤◌};
 ghost use Rattle.raw_table.specs.Seq.{seq_at};
 
-use memory_layout::kinds::wrap;
+use memory_layout::kinds::SlotCount;
 
 // Where a search stands: the next group starts at `index`. Probing goes by pairs of groups, as with groups of sixteen.
 #[derive(Clone, Copy)]
@@ -15,11 +14,10 @@ pub struct ProbeSeq {
 }
 
 impl ProbeSeq {
-    pub fn new(h1: usize, slots: usize) -> Self
-        requires { Slots slots }
-        ensures { result ≡ seq_at (h1 % slots) slots 0 }
+    pub fn new(h1: usize, slots: SlotCount) -> Self
+        ensures { result ≡ seq_at (h1 % slots.n) slots.n 0 }
     {
-        let start = wrap(h1, slots);
+        let start = slots.wrap(h1);
         ProbeSeq {
             index: start,
             base: start,
@@ -29,26 +27,25 @@ impl ProbeSeq {
     }
 
     // One step: takes the state and hands back the next.
-    pub fn advance(self, slots: usize) -> Self
-        requires { Slots slots × (self.base ≤ 2 ^ 40) × (self.chunk ≤ 8) × (self.stride ≤ 2 ^ 40) }
-        ensures { (b j : ℕ) → self ≡ seq_at b slots j → result ≡ seq_at b slots (suc j) }
+    pub fn advance(self, slots: SlotCount) -> Self
+        requires { (self.base ≤ 2 ^ 40) × (self.chunk ≤ 8) × (self.stride ≤ 2 ^ 40) }
+        ensures { (b j : ℕ) → self ≡ seq_at b slots.n j → result ≡ seq_at b slots.n (suc j) }
     {
         let chunk = self.chunk + 8;
         if chunk == 16 {
             let stride = self.stride + 16;
             let base = self.base + stride;
             ProbeSeq {
-                index: wrap(base, slots),
+                index: slots.wrap(base),
                 base,
                 chunk: 0,
                 stride,
             }
         } else {
             ProbeSeq {
-                index: wrap(self.base + chunk, slots),
-                base: self.base,
+                index: slots.wrap(self.base + chunk),
                 chunk,
-                stride: self.stride,
+                ..self
             }
         }
     }

@@ -1,46 +1,43 @@
--- The header's answer decides whether a row applies, and the search's the rest.
+-- The opening decides whether a row applies, and the search the rest. Assumes nothing.
 use mathlib.Core.Path.{◌≡◌, sym, ap, ◌∙◌}
-use Prim.Native.Nat.{ℕ}
-use Rattle.rules.specs.Search.{spot_of}
-use Rattle.rules.specs.Calls.{refused, find_says, find_answer}
+use Rattle.std.proofs.lemmas.Result.{err_from_is_err_and}
+use Rattle.rules.specs.Calls.{find_says, find_answer}
 use Rattle.rules.proofs.CallLaws.{find_header, find_length, find_passes, find_refused, find_answer_says}
-use Rattle.memory_layout.proofs.CheckedLaws.{Checks, slots_checks, refused_fails}
+use Rattle.memory_layout.specs.Said.{said_refusal}
+use Rattle.memory_layout.specs.TableParts.{said_table}
+use Rattle.memory_layout.proofs.CheckedLaws.{fails}
 use Rattle.raw_table.specs.declared.search.Spot.{Spot}
 use Rattle.raw_table.specs.Said.{said_spot}
+use Rattle.raw_table.proofs.OpenLaws.{opened, ends}
 use Rattle.raw_table.proofs.find.find.Goals as goal
-use Rattle.raw_table.proofs.find.find.Goals.{After-search, In-Slots}
+use Rattle.raw_table.proofs.find.find.Goals.{After-search}
 
-checks : (c : In-Slots) → Checks c.args.book.now c.args.k c.args.v c.in-Slots.slots
-checks c =
+pub returns-in_err-table : goal.returns-in_err-table
+unfolding said_table
+returns-in_err-table c =
     let a = c.args in
-    slots_checks a.book.now a.k a.v c.check_header.result c.check_header.ensures c.in-Slots.slots c.in-Slots.is
+    let p = err_from_is_err_and c.from_residual.result c.from_residual.ensures.1 in
+    rw (p.1, p.2)
+    (sym (find_refused a.book.now a.k a.v a.key.now _ (find_header a.book.now a.k a.v a.key.now _ (fails a.book.now a.k a.v _ (sym c.in_err-table.ensures.answered)))))
+
+pub returns-then-key-k : goal.returns-then-key-k
+unfolding said_table said_refusal
+returns-then-key-k c =
+    let a = c.args in
+    let o = opened a.book a.k a.v c.in_ok-table.table c.in_ok-table.ensures.answered c.in_ok-table.ensures.opened in
+    sym (find_refused a.book.now a.k a.v a.key.now _ (find_length a.book.now a.k a.v a.key.now o.rows c.if-key-k.true))
 
 -- no row applies, so find says what the search tells
 told : (c : After-search)
     → find_answer c.args.book.now c.args.k c.args.v c.args.key.now
     ≡ find_says (said_spot c.search.result)
+unfolding said_table
 told c =
     let a = c.args in
-    let f = find_passes a.book.now a.k a.v a.key.now (checks (goal.at.After-search c).In-Slots).rows c.if-key-k.false in
-    find_answer_says a.book.now a.k a.v a.key.now f
-    ∙ ap (λ (S : ℕ). find_says (spot_of a.book.now a.k a.v S a.key.now)) (sym (checks (goal.at.After-search c).In-Slots).count)
-    ∙ ap find_says (sym c.search.ensures)
-
-pub returns-then-key-k : goal.returns-then-key-k
-returns-then-key-k c =
-    let a = c.args in
-    let f = find_length a.book.now a.k a.v a.key.now (checks (goal.at.returns-then-key-k c).In-Slots).rows c.if-key-k.true in
-    ap refused c.of_row.ensures ∙ sym (find_refused a.book.now a.k a.v a.key.now _ f)
-
-pub search-requires : goal.search-requires
-search-requires c = (checks (goal.at.search-requires c).In-Slots).passed
-
-pub returns-in-Refused : goal.returns-in-Refused
-returns-in-Refused c =
-    let h = c.check_header in
-    let a = c.args in
-    let r = refused_fails a.book.now a.k a.v h.result h.ensures c.in-Refused.refusal c.in-Refused.is in
-    sym (find_refused a.book.now a.k a.v a.key.now _ (find_header a.book.now a.k a.v a.key.now _ r))
+    let t = c.in_ok-table.ensures in
+    let o = opened a.book a.k a.v c.in_ok-table.table t.answered t.opened in
+    find_answer_says a.book.now a.k a.v a.key.now (find_passes a.book.now a.k a.v a.key.now o.rows c.if-key-k.false)
+    ∙ ap find_says (ends a.book a.k a.v c.in_ok-table.table t.answered t.opened a.key.now c.search.result c.search.ensures)
 
 pub returns-in-Same : goal.returns-in-Same
 unfolding find_says

@@ -1,11 +1,11 @@
 use mathlib.Core.Path.{refl, sym, ap₂, ◌∙◌}
-use Prim.Native.Nat.{◌-◌}
+use Prim.Native.Nat.{◌+◌, ◌-◌}
 use native.Mathlib.Omega.{arith}
 use lib.Dec.{eqb}
 use lib.ListN.{length}
 use Rattle.rules.proofs.BytesLaws.{Bytes, same_lengths, word_differs, word_same, word_last}
 use Rattle.raw_table.proofs.search.equals.Goals as goal
-use Rattle.raw_table.proofs.search.equals.Goals.{At-loop-i}
+use Rattle.raw_table.proofs.search.equals.Goals.{At-loop-i, else-loop-i-test, then-loop-i-test+else-read_u64+else-last-i-gt8}
 
 ours : (c : At-loop-i) → Bytes c.args.a.now
 ours c i = omega (arith, c.type_inv.a i)
@@ -52,5 +52,13 @@ read_u64-requires-3 c = omega arith
 pub returns : goal.returns
 returns c =
     let a = c.args in
+    let at = (goal.at.returns c).At-loop-i in
+    let last = word_last 8 (length a.a.now - 8) a.a.now a.b.now (omega arith) (omega arith) (ours at) (theirs at) in
     ap₂ eqb c.read_u64-2.ensures c.read_u64-3.ensures
-    ∙ word_last 8 (length a.a.now - 8) a.a.now a.b.now (omega arith) (omega arith) (ours (goal.at.returns c).At-loop-i) (theirs (goal.at.returns c).At-loop-i) c.loop-i.i (omega arith) c.loop-i.invariant (omega arith)
+    ∙ elim c.loop-i-test.branch [
+      | else-loop-i-test w ↦ last c.loop-i.i w.loop-i-test.false c.loop-i.invariant (omega arith)
+      | then-loop-i-test+else-read_u64+else-last-i-gt8 w ↦
+          let i = c.loop-i.i in
+          let read = sym w.read_u64-in-loop-i.ensures ∙ w.if-read_u64.false ∙ w.read_u64-in-loop-i-2.ensures in
+          last (i + 8) (omega arith) (word_same 8 i a.a.now a.b.now (omega arith) (omega arith) (ours at) (theirs at) c.loop-i.invariant read) (omega arith)
+    ]

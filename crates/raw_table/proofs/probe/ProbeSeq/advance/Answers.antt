@@ -6,10 +6,10 @@ pub returns-then-chunk-eq16 : goal.returns-then-chunk-eq16
 returns-then-chunk-eq16 c =
     λ b j e.
     let a = c.args in
-    next_pair b a.slots j a.self e c.wrap.result c.if-chunk-eq16.true c.wrap.ensures
+    next_pair b a.slots.n j a.self e c.wrap.result c.if-chunk-eq16.true c.wrap.ensures
 
 pub returns-else-chunk-eq16 : goal.returns-else-chunk-eq16
 returns-else-chunk-eq16 c =
     λ b j e.
     let a = c.args in
-    next_half b a.slots j a.self e c.wrap-else-chunk-eq16.result c.if-chunk-eq16.false c.wrap-else-chunk-eq16.ensures
+    next_half b a.slots.n j a.self e c.wrap-else-chunk-eq16.result c.if-chunk-eq16.false c.wrap-else-chunk-eq16.ensures
