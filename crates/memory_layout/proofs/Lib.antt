@@ -1,3 +1,4 @@
+pub mod SaidLaws
 pub mod PartLaws
 pub mod CheckedLaws
 pub mod TryLaws

@@ -106,11 +106,8 @@ fn passes(book: &[u8], k: usize, v: usize) -> Option<SlotCount>
         return None;
     }
     let sizes = EntrySizes { k, v };
-    if book.len() == sizes.total(slots) {
-        Some(slots)
-    } else {
-        None
-    }
+    let is_whole = book.len() == sizes.total(slots);
+    if is_whole { Some(slots) } else { None }
 }
 
 // Every call begins with this, so a sound header is told first, and cheaply. Of any other the rows say what is wrong.

@@ -3,3 +3,4 @@ pub mod TurnLaws
 pub mod WriteLaws
 pub mod WordLaws
 pub mod OpenLaws
+pub mod SaidOnce

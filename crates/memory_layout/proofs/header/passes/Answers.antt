@@ -60,12 +60,12 @@ returns-then-word_not-byte_not-2 c n =
     let f : false ≡ true = rw (c.word_not-2.ensures, t.2, c.byte_not-4.ensures, t.6) at c.if-word_not-byte_not-2.true in
     impossible cc
 
-pub returns-then-book-total : goal.returns-then-book-total
+pub returns-then-is_whole : goal.returns-then-is_whole
 unfolding le_bytes
-returns-then-book-total c =
+returns-then-is_whole c =
     let a = c.args in
     let s = a.book.now in
-    let at = (goal.at.returns-then-book-total c).Else-k-byte_not in
+    let at = (goal.at.returns-then-is_whole c).Else-k-byte_not in
     let slots = c.in_ok-slots.ensures in
     let count : c.in_ok-slots.slots.n ≡ slot_count s = slots.count ∙ c.read_u64.ensures in
     let tag = neither c.word_not.result c.byte_not-3.result c.if-word_not-byte_not.false in
@@ -78,12 +78,12 @@ returns-then-book-total c =
           (stated at).2
           (not-false _ (sym c.byte_not-4.ensures ∙ last.1))
           (rw c.read_u64.ensures at (sym slots.known))
-          (c.if-book-total.true ∙ c.total.ensures ∙ ap (total a.k a.v) count),
+          (c.if-is_whole.true ∙ c.total.ensures ∙ ap (total a.k a.v) count),
       count,
     )
 
-pub returns-else-book-total : goal.returns-else-book-total
-returns-else-book-total c n =
+pub returns-else-is_whole : goal.returns-else-is_whole
+returns-else-is_whole c n =
     let a = c.args in
     let count : c.in_ok-slots.slots.n ≡ slot_count a.book.now = c.in_ok-slots.ensures.count ∙ c.read_u64.ensures in
-    c.if-book-total.false (eqb-true _ _ (each_passed a.book.now a.k a.v n).8 ∙ sym (c.total.ensures ∙ ap (total a.k a.v) count))
+    c.if-is_whole.false (eqb-true _ _ (each_passed a.book.now a.k a.v n).8 ∙ sym (c.total.ensures ∙ ap (total a.k a.v) count))

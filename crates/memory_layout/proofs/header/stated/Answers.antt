@@ -9,28 +9,28 @@ use Rattle.memory_layout.proofs.header.stated.Goals as goal
 
 pub returns-then-other_tag : goal.returns-then-other_tag
 unfolding header_rows said_row said_refusal le_bytes
-returns-then-other_tag c = simp (first_if, sym c.word_not-other_tag.ensures ∙ c.if-other_tag.true)
+returns-then-other_tag c = simp (first_if, sym c.if-other_tag.ensures)
 
 pub returns-then-other_version : goal.returns-then-other_version
 unfolding header_rows said_row said_refusal le_bytes
-returns-then-other_version c = simp (first_if, sym c.word_not-other_tag.ensures ∙ c.if-other_tag.false, sym c.word_not-other_version.ensures ∙ c.if-other_version.true)
+returns-then-other_version c = simp (first_if, sym c.if-other_tag.ensures, sym c.if-other_version.ensures)
 
 pub returns-then-other_metadata : goal.returns-then-other_metadata
 unfolding header_rows said_row said_refusal le_bytes
-returns-then-other_metadata c = simp (first_if, sym c.word_not-other_tag.ensures ∙ c.if-other_tag.false, sym c.word_not-other_version.ensures ∙ c.if-other_version.false, sym c.byte_not-other_metadata.ensures ∙ c.if-other_metadata.true)
+returns-then-other_metadata c = simp (first_if, sym c.if-other_tag.ensures, sym c.if-other_version.ensures, sym c.if-other_metadata.ensures)
 
 pub returns-then-other_key : goal.returns-then-other_key
 unfolding header_rows said_row said_refusal le_bytes
-returns-then-other_key c = simp (first_if, sym c.word_not-other_tag.ensures ∙ c.if-other_tag.false, sym c.word_not-other_version.ensures ∙ c.if-other_version.false, sym c.byte_not-other_metadata.ensures ∙ c.if-other_metadata.false, sym c.byte_not-other_key.ensures ∙ c.if-other_key.true)
+returns-then-other_key c = simp (first_if, sym c.if-other_tag.ensures, sym c.if-other_version.ensures, sym c.if-other_metadata.ensures, sym c.if-other_key.ensures)
 
 pub returns-then-other_value : goal.returns-then-other_value
 unfolding header_rows said_row said_refusal le_bytes
-returns-then-other_value c = simp (first_if, sym c.word_not-other_tag.ensures ∙ c.if-other_tag.false, sym c.word_not-other_version.ensures ∙ c.if-other_version.false, sym c.byte_not-other_metadata.ensures ∙ c.if-other_metadata.false, sym c.byte_not-other_key.ensures ∙ c.if-other_key.false, sym c.byte_not-other_value.ensures ∙ c.if-other_value.true)
+returns-then-other_value c = simp (first_if, sym c.if-other_tag.ensures, sym c.if-other_version.ensures, sym c.if-other_metadata.ensures, sym c.if-other_key.ensures, sym c.if-other_value.ensures)
 
 pub returns-then-other_header : goal.returns-then-other_header
 unfolding header_rows said_row said_refusal le_bytes
-returns-then-other_header c = simp (first_if, sym c.word_not-other_tag.ensures ∙ c.if-other_tag.false, sym c.word_not-other_version.ensures ∙ c.if-other_version.false, sym c.byte_not-other_metadata.ensures ∙ c.if-other_metadata.false, sym c.byte_not-other_key.ensures ∙ c.if-other_key.false, sym c.byte_not-other_value.ensures ∙ c.if-other_value.false, sym c.byte_not-other_header.ensures ∙ c.if-other_header.true)
+returns-then-other_header c = simp (first_if, sym c.if-other_tag.ensures, sym c.if-other_version.ensures, sym c.if-other_metadata.ensures, sym c.if-other_key.ensures, sym c.if-other_value.ensures, sym c.if-other_header.ensures)
 
 pub returns : goal.returns
 unfolding header_rows size_rows le_bytes
-returns c = rw (c.sized.ensures.row, c.read_u64.ensures) (sym (simp (first_if, sym c.word_not-other_tag.ensures ∙ c.if-other_tag.false, sym c.word_not-other_version.ensures ∙ c.if-other_version.false, sym c.byte_not-other_metadata.ensures ∙ c.if-other_metadata.false, sym c.byte_not-other_key.ensures ∙ c.if-other_key.false, sym c.byte_not-other_value.ensures ∙ c.if-other_value.false, sym c.byte_not-other_header.ensures ∙ c.if-other_header.false)))
+returns c = rw (c.sized.ensures.row, c.read_u64.ensures) (sym (simp (first_if, sym c.if-other_tag.ensures, sym c.if-other_version.ensures, sym c.if-other_metadata.ensures, sym c.if-other_key.ensures, sym c.if-other_value.ensures, sym c.if-other_header.ensures)))
