@@ -1,3 +1,2 @@
-pub mod StoreLaws
 pub mod ValueLaws
 pub mod SaidOnce

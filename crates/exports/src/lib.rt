@@ -7,7 +7,7 @@ ghost use Rattle.rules.specs.Calls.{init_answer, init_book, open_answer, find_an
 ghost use Rattle.rules.specs.Check.{check_answer};
 ghost use Rattle.exports.specs.Numbers.{numbers, value_numbers, returned, holds};
 
-use crate::numbers::{of_made, of_next, of_opened, of_verdict, store};
+use crate::numbers::AnswerNumbers;
 use crate::value::value_numbers;
 use book_check::check_book;
 use memory_layout::init::init_in_place;
@@ -33,10 +33,8 @@ pub fn tally_init(
     if answer.len() != 8 {
         return 1;
     }
-    store(
-        answer,
-        of_made(init_in_place(book, k, v, slots, count, load)),
-    );
+    let numbers: AnswerNumbers = init_in_place(book, k, v, slots, count, load).into();
+    answer.copy_from_slice(&numbers.0);
     0
 }
 
@@ -47,7 +45,8 @@ pub fn tally_open(book: &[u8], k: usize, v: usize, answer: &mut [u64]) -> u64
     if answer.len() != 8 {
         return 1;
     }
-    store(answer, of_opened(open(book, k, v)));
+    let numbers: AnswerNumbers = open(book, k, v).into();
+    answer.copy_from_slice(&numbers.0);
     0
 }
 
@@ -59,7 +58,8 @@ pub fn tally_check(book: &[u8], k: usize, v: usize, answer: &mut [u64]) -> u64
     if answer.len() != 8 {
         return 1;
     }
-    store(answer, of_verdict(check_book(book, k, v)));
+    let numbers: AnswerNumbers = check_book(book, k, v).into();
+    answer.copy_from_slice(&numbers.0);
     0
 }
 
@@ -71,7 +71,7 @@ pub fn tally_value(book: &[u8], k: usize, v: usize, key: &[u8], answer: &mut [u6
     if answer.len() != 8 {
         return 1;
     }
-    store(answer, value_numbers(book, k, v, key));
+    answer.copy_from_slice(&value_numbers(book, k, v, key).0);
     0
 }
 
@@ -83,6 +83,7 @@ pub fn tally_next(book: &[u8], k: usize, v: usize, from: usize, answer: &mut [u6
     if answer.len() != 8 {
         return 1;
     }
-    store(answer, of_next(next_occupied(book, k, v, from)));
+    let numbers: AnswerNumbers = next_occupied(book, k, v, from).into();
+    answer.copy_from_slice(&numbers.0);
     0
 }

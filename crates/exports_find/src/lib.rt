@@ -5,7 +5,7 @@ ghost use Rattle.std.specs.Prelude.{◌≡◌};
 ghost use Rattle.rules.specs.Calls.{find_answer};
 ghost use Rattle.exports.specs.Numbers.{numbers, returned, holds};
 
-use exports::numbers::{of_found, store};
+use exports::numbers::AnswerNumbers;
 use raw_table::find::find;
 
 pub fn tally_find(book: &[u8], k: usize, v: usize, key: &[u8], answer: &mut [u64]) -> u64
@@ -15,6 +15,7 @@ pub fn tally_find(book: &[u8], k: usize, v: usize, key: &[u8], answer: &mut [u64
     if answer.len() != 8 {
         return 1;
     }
-    store(answer, of_found(find(book, k, v, key)));
+    let numbers: AnswerNumbers = find(book, k, v, key).into();
+    answer.copy_from_slice(&numbers.0);
     0
 }

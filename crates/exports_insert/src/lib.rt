@@ -5,7 +5,7 @@ ghost use Rattle.std.specs.Prelude.{◌≡◌};
 ghost use Rattle.rules.specs.Calls.{insert_answer, insert_book, insert_old};
 ghost use Rattle.exports.specs.Numbers.{numbers, returned, holds};
 
-use exports::numbers::{of_inserted, store};
+use exports::numbers::AnswerNumbers;
 use raw_table::insert::insert;
 
 // `old` has as many bytes as a value: what is replaced is left there.
@@ -26,6 +26,7 @@ pub fn tally_insert(
     if answer.len() != 8 {
         return 1;
     }
-    store(answer, of_inserted(insert(book, k, v, key, value, old)));
+    let numbers: AnswerNumbers = insert(book, k, v, key, value, old).into();
+    answer.copy_from_slice(&numbers.0);
     0
 }
