@@ -1,1 +1,4 @@
+pub mod FindLaws
+pub mod OpenedLaws
+pub mod WalkLaws
 pub mod SaidOnce

@@ -1,42 +1,29 @@
--- No two answers say the same: so a contract `said r ≡ rule ..` leaves one answer. Assumes nothing.
+-- No two answers of iterating say the same: so its contract leaves one answer. Assumes nothing.
 use mathlib.Core.Path.{◌≡◌, refl, ap}
+use Prim.Native.Nat.{ℕ}
+use Rattle.std.specs.Prelude.{Option, Some, None, Result, Ok, Err}
 use Rattle.rules.proofs.TestLaws.{impossible}
+use Rattle.memory_layout.specs.declared.kinds.Slot.{Slot}
+use Rattle.memory_layout.specs.declared.refusal.Refusal.{Refusal}
 use Rattle.memory_layout.specs.Said.{said_refusal}
 use Rattle.memory_layout.proofs.SaidLaws.{refusal_once}
-use Rattle.raw_slots.specs.declared.open.Fault.{Fault}
-use Rattle.raw_slots.specs.declared.open.Fault.TheVariants.{Nothing, Found}
-use Rattle.raw_slots.specs.declared.open.Opened.{Opened}
-use Rattle.raw_slots.specs.declared.open.Opened.TheVariants as opened
-use Rattle.raw_slots.specs.declared.iter.Next.{Next}
-use Rattle.raw_slots.specs.declared.iter.Next.TheVariants as nexts
-use Rattle.raw_slots.specs.SaidIter.{said_next}
-use Rattle.raw_slots.specs.SaidOpen.{said_fault, said_opened}
+use Rattle.raw_slots.specs.SaidIter.{said_occupied, said_next}
 
-pub fault_once : (a b : Fault) → said_fault a ≡ said_fault b → a ≡ b
-unfolding said_fault
-fault_once Nothing Nothing e = refl
-fault_once Nothing (Found r) e = impossible cc
-fault_once (Found q) Nothing e = impossible cc
-fault_once (Found q) (Found r) e = let h : said_refusal q ≡ said_refusal r = cc in ap Found (refusal_once q r h)
+pub occupied_once : (a b : Option (Slot × ℕ)) → said_occupied a ≡ said_occupied b → a ≡ b
+unfolding said_occupied
+occupied_once (Some p) (Some q) e =
+    let h : p.0.0 ≡ q.0.0 = cc in
+    let g : p.1 ≡ q.1 = cc in
+    λ i. Some (record { 0 = h i }, g i)
+occupied_once (Some p) None e = impossible cc
+occupied_once None (Some q) e = impossible cc
+occupied_once None None e = refl
 
-pub opened_once : (a b : Opened) → said_opened a ≡ said_opened b → a ≡ b
-unfolding said_opened
-opened_once opened.Fine opened.Fine e = refl
-opened_once opened.Fine (opened.Refused r) e = impossible cc
-opened_once (opened.Refused q) opened.Fine e = impossible cc
-opened_once (opened.Refused q) (opened.Refused r) e = let h : said_refusal q ≡ said_refusal r = cc in ap opened.Refused (refusal_once q r h)
-
-pub next_once : (a b : Next) → said_next a ≡ said_next b → a ≡ b
-unfolding said_next
-next_once (nexts.At s x) (nexts.At t y) e =
-    let h : s.0 ≡ t.0 = cc in
-    let g : x ≡ y = cc in
-    λ i. nexts.At (record { 0 = h i }) (g i)
-next_once (nexts.At s x) nexts.Done e = impossible cc
-next_once (nexts.At s x) (nexts.Refused r) e = impossible cc
-next_once nexts.Done (nexts.At t y) e = impossible cc
-next_once nexts.Done nexts.Done e = refl
-next_once nexts.Done (nexts.Refused r) e = impossible cc
-next_once (nexts.Refused q) (nexts.At t y) e = impossible cc
-next_once (nexts.Refused q) nexts.Done e = impossible cc
-next_once (nexts.Refused q) (nexts.Refused r) e = let h : said_refusal q ≡ said_refusal r = cc in ap nexts.Refused (refusal_once q r h)
+pub next_once : (a b : Result (Option (Slot × ℕ)) Refusal) → said_next a ≡ said_next b → a ≡ b
+unfolding said_next said_occupied
+next_once (Ok a) (Ok b) e = ap Ok (occupied_once a b e)
+next_once (Ok (Some p)) (Err r) e = impossible cc
+next_once (Ok None) (Err r) e = impossible cc
+next_once (Err q) (Ok (Some p)) e = impossible cc
+next_once (Err q) (Ok None) e = impossible cc
+next_once (Err q) (Err r) e = let h : said_refusal q ≡ said_refusal r = cc in ap Err (refusal_once q r h)

@@ -1,2 +1,2 @@
-pub mod SaidOpen
+pub mod SaidSlot
 pub mod SaidIter

@@ -1,38 +1,23 @@
-use mathlib.Core.Path.{◌≡◌, refl, sym, ap, ◌∙◌}
-use mathlib.Core.Bool.{not}
-use native.Mathlib.Omega.{arith}
-use Rattle.rules.specs.Layout.{is_empty, occupied}
+-- The slot that is found is the lowest that is occupied.
+use Rattle.std.proofs.Common.{rules, ◌≡◌, ◌-◌, Some, None, sym, ap, ◌∙◌}
+use Rattle.std.specs.declared.option.Option.{Option}
+use Rattle.memory_layout.specs.declared.kinds.Slot.{Slot}
+use Rattle.rules.specs.First.{numbers, first_of}
 use Rattle.rules.specs.Calls.{next, next_says}
-use Rattle.rules.proofs.FirstLaws.{onward_yes, onward_no, onward_end}
-use Rattle.raw_slots.specs.SaidIter.{said_next}
+use Rattle.memory_layout.specs.TableParts.{occupied_in}
+use Rattle.raw_slots.specs.SaidIter.{said_occupied}
+use Rattle.raw_slots.specs.SaidSlot.{said_slot}
 use Rattle.raw_slots.proofs.iter.occupied_from.Goals as goal
-use Rattle.raw_slots.proofs.iter.occupied_from.Goals.{After-is_empty}
+use Rattle.raw_slots.proofs.iter.occupied_from.Goals.{After-lowest}
 
-pub loop-i-init : goal.loop-i-init
-loop-i-init c = refl
+first : (c : After-lowest) (r : Option Slot) → c.lowest.result ≡ r
+    → first_of (occupied_in c.args.table.now) (numbers c.args.from (c.args.table.now.slots.n - c.args.from)) ≡ said_slot r
+first c r e = sym (ap said_slot (sym e) ∙ c.lowest.ensures.first (occupied_in c.args.table.now) (λ i b l p. search rules))
 
--- whether the slot is occupied
-occupied_is : (c : After-is_empty)
-    → occupied c.args.book.now c.args.k c.args.v c.args.slots c.loop-i.i ≡ not c.is_empty.result
-occupied_is c = ap not (ap is_empty (sym c.control_byte-control.ensures) ∙ sym c.is_empty.ensures)
-
-pub returns-then-not-is_empty : goal.returns-then-not-is_empty
-unfolding said_next next_says
-returns-then-not-is_empty c =
-    let a = c.args in
-    let l = c.loop-i in
-    let f = onward_yes (occupied a.book.now a.k a.v a.slots) a.slots l.i c.loop-i-test.true (occupied_is (goal.at.returns-then-not-is_empty c).After-is_empty ∙ ap not c.if-not-is_empty.true) in
-    ap (next l.i) c.control_byte-control.ensures ∙ sym (ap (next_says a.book.now a.k a.v a.slots) (l.invariant ∙ f))
-
-pub loop-i-preserved : goal.loop-i-preserved
-loop-i-preserved c =
-    let a = c.args in
-    let l = c.loop-i in
-    l.invariant ∙ onward_no (occupied a.book.now a.k a.v a.slots) a.slots l.i c.loop-i-test.true (occupied_is (goal.at.loop-i-preserved c).After-is_empty ∙ ap not c.if-not-is_empty.false)
+pub returns-in_err-slot : goal.returns-in_err-slot
+unfolding said_occupied next_says said_slot
+returns-in_err-slot c = rw (c.from_residual.ensures, first (goal.at.returns-in_err-slot c).After-lowest None c.in_err-slot.was)
 
 pub returns : goal.returns
-unfolding said_next next_says
-returns c =
-    let a = c.args in
-    let l = c.loop-i in
-    sym (ap (next_says a.book.now a.k a.v a.slots) (l.invariant ∙ onward_end (occupied a.book.now a.k a.v a.slots) a.slots l.i (omega arith)))
+unfolding said_occupied next_says said_slot
+returns c = rw (first (goal.at.returns c).After-lowest (Some c.in_ok-slot.slot) c.in_ok-slot.was) (ap (next c.in_ok-slot.slot.0) c.control_byte-control.ensures)

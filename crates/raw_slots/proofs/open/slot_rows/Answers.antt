@@ -1,42 +1,25 @@
-use mathlib.Core.Path.{◌≡◌, sym, ap, ◌∙◌}
-use mathlib.Core.Bool.{not}
-use native.Mathlib.Omega.{arith}
-use Rattle.rules.specs.Rows.{slot_row, slot_rows}
-use Rattle.rules.proofs.FirstLaws.{onward_start, onward_yes, onward_no, onward_end}
-use Rattle.raw_slots.specs.SaidOpen.{said_fault}
-use Rattle.raw_slots.proofs.open.slot_rows.Invariants.{Bad}
+-- The slot at fault is the lowest that is not as it should be.
+use Rattle.std.proofs.Common.{rules, ◌≡◌, not, Some, None, sym, ◌∙◌}
+use native.Mathlib.Nat.{sub-zero}
+use Rattle.std.specs.declared.option.Option.{Option}
+use Rattle.memory_layout.specs.declared.kinds.Slot.{Slot}
+use Rattle.rules.specs.Rows.{slot_fine, slot_row, slot_rows}
+use Rattle.memory_layout.specs.Said.{said_row}
+use Rattle.raw_slots.specs.SaidSlot.{said_slot}
 use Rattle.raw_slots.proofs.open.slot_rows.Goals as goal
-use Rattle.raw_slots.proofs.open.slot_rows.Goals.{After-slot_fine}
+use Rattle.raw_slots.proofs.open.slot_rows.Goals.{After-lowest}
 
-pub loop-i-init : goal.loop-i-init
+first : (c : After-lowest) (r : Option Slot) → c.lowest.result ≡ r → slot_rows c.args.table.now.bytes.now c.args.table.now.sizes.k c.args.table.now.sizes.v c.args.table.now.slots.n c.args.n
+    ≡ slot_row c.args.table.now.bytes.now c.args.table.now.sizes.k c.args.table.now.sizes.v c.args.table.now.slots.n (said_slot r)
 unfolding slot_rows
-loop-i-init c =
-    let a = c.args in
-    (omega arith, ap (slot_row a.book.now a.k a.v a.slots) (onward_start (Bad a.book.now a.k a.v a.slots) a.n))
+first c r e =
+    let t = c.args.table.now in
+    rw (← e, c.lowest.ensures.first (λ i. not (slot_fine t.bytes.now t.sizes.k t.sizes.v t.slots.n i)) (λ i b l p. search rules), sub-zero)
 
--- whether the slot is at fault
-bad_is : (c : After-slot_fine)
-    → Bad c.args.book.now c.args.k c.args.v c.args.slots c.loop-i.i ≡ not c.slot_fine.result
-bad_is c = ap not (sym c.slot_fine.ensures)
+pub returns-in-Some : goal.returns-in-Some
+unfolding said_row said_slot
+returns-in-Some c = c.slot_fault.ensures ∙ sym (first (goal.at.returns-in-Some c).After-lowest (Some c.in-Some.slot) c.in-Some.is)
 
-pub returns-then-not-slot_fine : goal.returns-then-not-slot_fine
-unfolding said_fault
-returns-then-not-slot_fine c =
-    let a = c.args in
-    let l = c.loop-i in
-    let f = onward_yes (Bad a.book.now a.k a.v a.slots) a.n l.i c.loop-i-test.true (bad_is (goal.at.returns-then-not-slot_fine c).After-slot_fine ∙ ap not c.if-not-slot_fine.true) in
-    c.slot_fault.ensures ∙ sym (l.invariant.1 ∙ ap (slot_row a.book.now a.k a.v a.slots) f)
-
-pub loop-i-preserved : goal.loop-i-preserved
-loop-i-preserved c =
-    let a = c.args in
-    let l = c.loop-i in
-    let f = onward_no (Bad a.book.now a.k a.v a.slots) a.n l.i c.loop-i-test.true (bad_is (goal.at.loop-i-preserved c).After-slot_fine ∙ ap not c.if-not-slot_fine.false) in
-    (omega arith, l.invariant.1 ∙ ap (slot_row a.book.now a.k a.v a.slots) f)
-
-pub returns : goal.returns
-unfolding said_fault slot_row
-returns c =
-    let a = c.args in
-    let l = c.loop-i in
-    sym (l.invariant.1 ∙ ap (slot_row a.book.now a.k a.v a.slots) (onward_end (Bad a.book.now a.k a.v a.slots) a.n l.i (omega arith)))
+pub returns-in-None : goal.returns-in-None
+unfolding slot_row said_row said_slot
+returns-in-None c = sym (first (goal.at.returns-in-None c).After-lowest None c.in-None.is)
