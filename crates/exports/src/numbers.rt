@@ -80,7 +80,7 @@ impl From<Result<Inserted, Refusal>> for AnswerNumbers {
     }
 }
 
-#[tactic(auto, unfolding(crate::specs::Numbers::numbers, raw_slots::specs::SaidIter::said_next))]
+#[tactic(auto, unfolding(crate::specs::Numbers::numbers, raw_slots::specs::SaidIter::said_next, raw_slots::specs::SaidIter::said_occupied))]
 impl From<Result<Option<(Slot, u8)>, Refusal>> for AnswerNumbers {
     ghost from_gives = { λ next answer. answer.0 ≡ numbers (said_next next) };
 

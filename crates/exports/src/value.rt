@@ -24,13 +24,15 @@ pub fn value_numbers(book: &[u8], k: usize, v: usize, key: &[u8]) -> AnswerNumbe
     ensures { result.0 ≡ value_numbers k v (find_answer book.now k v key.now) }
 {
     let found = find(book, k, v, key);
-    match found {
-        Ok(Found::At(slot, n)) => {
+    let Ok(place) = found else {
+        return found.into();
+    };
+    match place {
+        Found::At(slot, n) => {
             let sizes = EntrySizes { k, v };
             let offset = offset_of(slot, sizes);
             AnswerNumbers([2, 0, slot.0 as u64, 0, 0, n as u64, offset as u64, v as u64])
         }
-        Ok(Found::Absent(_)) => found.into(),
-        Err(_) => found.into(),
+        Found::Absent(_) => found.into(),
     }
 }
