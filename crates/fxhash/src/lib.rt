@@ -25,7 +25,7 @@ pub fn add_to_hash(current: u64, value: u64) -> u64
     wrapping_mul(rotate_left_5(current) ^ value, 0x517c_c1b7_2722_0a95)
 }
 
-// The N bytes from a place on. An `unwrap` of `first_chunk` would leave a test of the length in each read.
+// The N bytes from a place on. `first_chunk` with an `unwrap` was tried: it leaves a test of the length in each read.
 fn chunk<const N: usize>(bytes: &[u8], at: usize) -> &[u8; N]
     requires some { 0 < N }
     requires within { at + N ≤ length bytes.now }
@@ -34,7 +34,8 @@ fn chunk<const N: usize>(bytes: &[u8], at: usize) -> &[u8; N]
     &bytes[at..at + N].as_chunks().0[0]
 }
 
-// The numbers that 2, 4 and 8 bytes from a place on stand for.
+// The numbers that 2, 4 and 8 bytes from a place on stand for, each by one load. A function for each width, since
+// `from_le_bytes` is a method of each type and of no trait.
 #[tactic(auto, using(crate::proofs::ReadLaws::le_part_2))]
 pub fn read_u16(bytes: &[u8], at: usize) -> u16
     requires { at + 2 ≤ length bytes.now }
@@ -70,7 +71,7 @@ fn low(h: u64) -> u32
 fn hash_any(bytes: &[u8]) -> u32
     ensures { result ≡ hash_of bytes.now }
 {
-    let mut hash: u64 = 0;
+    let mut hash = 0;
     let mut rest = bytes;
     while let Some((chunk, after)) = rest.split_first_chunk::<8>() {
         hash = add_to_hash(hash, u64::from_le_bytes(*chunk));
@@ -90,8 +91,9 @@ fn hash_any(bytes: &[u8]) -> u32
     low(hash)
 }
 
-// The lengths that most keys have are asked for, since a length that is known needs no loop and no test. Eight bytes come first
-// and apart: three `==` in a row the compiler would ask in an order of its own. Their one chunk is written out, for a multiply of 32 bits.
+// The lengths that most keys have are asked for, since a length that is known takes no loop and no test of what remains.
+// Eight bytes come first and apart: three `==` in a row the compiler would ask in an order of its own. Their one chunk is
+// written out, since only so does it take a multiply of 32 bits.
 pub fn hash(bytes: &[u8]) -> u32
     ensures { result ≡ hash_of bytes.now }
 {
