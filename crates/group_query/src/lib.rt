@@ -10,35 +10,23 @@ ghost use Rattle.rules.specs.Group.{reports, positions, first_empty};
 ghost use Rattle.group_query.specs.Marks.{word, empties, others, said_first};
 
 // The reported positions and the empty ones, each as a mask: bit 0x80 of byte m for position m.
-#[derive(Clone, Copy)]
+#[derive(Clone, Copy, Debug, PartialEq, Eq)]
 pub struct GroupQuery {
     pub eq: u64,
     pub empty: u64,
-}
-
-#[derive(Clone, Copy)]
-pub enum First {
-    At(usize),
-    Nothing,
-}
-
-fn wide(x: u8) -> u64
-    ensures { (result ≡ x) × (result < 2 ^ 8) }
-{
-    x as u64
 }
 
 // A byte in each place of a word.
 fn repeat(byte: u8) -> u64
     ensures { result ≡ le (replicate 8 byte) }
 {
-    wide(byte) * 0x0101_0101_0101_0101
+    u64::from(byte) * 0x0101_0101_0101_0101
 }
 
 fn lowest_byte(mask: u64) -> usize
     ensures { result ≡ count_trailing_zeros 64 mask / 8 }
 {
-    (u64::trailing_zeros(mask) / 8) as usize
+    (mask.trailing_zeros() / 8) as usize
 }
 
 // The lowest marked position of a mask that has one.
@@ -65,7 +53,7 @@ impl GroupQuery {
     {
         let group = fxhash::read_u64(metadata, at);
         let cmp = group ^ repeat(h2);
-        let low = std::num::wrapping_sub_u64(cmp, 0x0101_0101_0101_0101);
+        let low = cmp.wrapping_sub(0x0101_0101_0101_0101);
         GroupQuery {
             eq: (!cmp & 0x8080_8080_8080_8080) & low,
             empty: group & 0x8080_8080_8080_8080,
@@ -78,13 +66,13 @@ impl GroupQuery {
         self.empty != 0
     }
 
-    pub fn first_empty(self) -> First
+    pub fn first_empty(self) -> Option<usize>
         ensures { (group : List ℕ) → length group ≡ 8 → self.empty ≡ word (empties group) → said_first result ≡ first_empty group }
     {
         let mask = self.empty;
         if mask == 0 {
-            return First::Nothing;
+            return None;
         }
-        First::At(lowest_byte(mask))
+        Some(lowest_byte(mask))
     }
 }
