@@ -17,6 +17,7 @@ pub struct GroupQuery {
 }
 
 // A byte in each place of a word.
+#[tactic(auto, unfolding(rules::specs::Bytes::le))]
 fn repeat(byte: u8) -> u64
     ensures { result ≡ le (replicate 8 byte) }
 {
@@ -60,6 +61,7 @@ impl GroupQuery {
         }
     }
 
+    #[tactic(auto, using(crate::proofs::MarkLaws::any_empty))]
     pub fn any_empty(self) -> bool
         ensures { (group : List ℕ) → self.empty ≡ word (empties group) → result ≡ some_of (λ b. is_empty b) group }
     {
