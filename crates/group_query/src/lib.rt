@@ -30,7 +30,7 @@ fn lowest_byte(mask: u64) -> usize
     (mask.trailing_zeros() / 8) as usize
 }
 
-// The lowest marked position of a mask that has one.
+// The lowest marked position of a mask that has one. This and the next take the mask as a number: docs/PROMISES.md names them.
 pub fn lowest_of(mask: u64) -> usize
     requires { 0 < mask }
     ensures { (ms : List Bool) → length ms ≡ 8 → mask ≡ word ms → (result < 8) × (positions 0 ms ≡ result ∷ positions 0 (others ms)) }
