@@ -8,73 +8,56 @@ ghost use Rattle.rules.specs.Hash.{rotate5, mixed, hash_of, tag};
 pub fn rotate_left_5(x: u64) -> u64
     ensures { result ≡ rotate5 x }
 {
-    (x % 0x0800_0000_0000_0000) * 32 + x / 0x0800_0000_0000_0000
+    x.rotate_left(5)
 }
 
 pub fn wrapping_mul(a: u64, b: u64) -> u64
     ensures { result ≡ a * b % 2 ^ 64 }
 {
-    let al = a % 0x1_0000_0000;
-    let ah = a / 0x1_0000_0000;
-    let bl = b % 0x1_0000_0000;
-    let bh = b / 0x1_0000_0000;
-    let cross = std::num::wrapping_add_u64(al * bh, ah * bl) % 0x1_0000_0000;
-    std::num::wrapping_add_u64(al * bl, cross * 0x1_0000_0000)
-}
-
-// The factor behind a reference: a constant that the compiler sees too early leaves three multiplies where one does.
-fn times(a: u64, b: &u64) -> u64
-    ensures { result ≡ a * b.now % 2 ^ 64 }
-{
-    wrapping_mul(a, *b)
+    a.wrapping_mul(b)
 }
 
 // One chunk taken into the hash.
+#[tactic(auto, unfolding(rules::specs::Hash::mixed))]
 pub fn add_to_hash(current: u64, value: u64) -> u64
     ensures { result ≡ mixed current value }
 {
-    let factor: u64 = 0x517c_c1b7_2722_0a95;
-    times(rotate_left_5(current) ^ value, &factor)
+    wrapping_mul(rotate_left_5(current) ^ value, 0x517c_c1b7_2722_0a95)
 }
 
-fn wide16(x: u8) -> u16
-    ensures { (result ≡ x) × (result < 2 ^ 8) }
+// The N bytes from a place on. `first_chunk` with an `unwrap` was tried: it leaves a test of the length in each read.
+fn chunk<const N: usize>(bytes: &[u8], at: usize) -> &[u8; N]
+    requires some { 0 < N }
+    requires within { at + N ≤ length bytes.now }
+    ensures { result.now ≡ part N at bytes.now }
 {
-    x as u16
+    &bytes[at..at + N].as_chunks().0[0]
 }
 
-fn wide32(x: u16) -> u32
-    ensures { (result ≡ x) × (result < 2 ^ 16) }
-{
-    x as u32
-}
-
-fn wide64(x: u32) -> u64
-    ensures { (result ≡ x) × (result < 2 ^ 32) }
-{
-    x as u64
-}
-
-// The numbers that 2, 4 and 8 bytes from a place on stand for. Made of halves, each compiles to one load.
+// The numbers that 2, 4 and 8 bytes from a place on stand for, each by one load. A function for each width, since
+// `from_le_bytes` is a method of each type and of no trait.
+#[tactic(auto, using(crate::proofs::ReadLaws::le_part_2))]
 pub fn read_u16(bytes: &[u8], at: usize) -> u16
     requires { at + 2 ≤ length bytes.now }
     ensures { result ≡ le (part 2 at bytes.now) }
 {
-    wide16(bytes[at]) + wide16(bytes[at + 1]) * 256
+    u16::from_le_bytes(*chunk(bytes, at))
 }
 
+#[tactic(auto, using(crate::proofs::ReadLaws::le_part_4))]
 pub fn read_u32(bytes: &[u8], at: usize) -> u32
     requires { at + 4 ≤ length bytes.now }
     ensures { result ≡ le (part 4 at bytes.now) }
 {
-    wide32(read_u16(bytes, at)) + wide32(read_u16(bytes, at + 2)) * 65536
+    u32::from_le_bytes(*chunk(bytes, at))
 }
 
+#[tactic(auto, using(crate::proofs::ReadLaws::le_part_8))]
 pub fn read_u64(bytes: &[u8], at: usize) -> u64
     requires { at + 8 ≤ length bytes.now }
     ensures { result ≡ le (part 8 at bytes.now) }
 {
-    wide64(read_u32(bytes, at)) + wide64(read_u32(bytes, at + 4)) * 0x1_0000_0000
+    u64::from_le_bytes(*chunk(bytes, at))
 }
 
 // The hash that a key's last chunk leaves.
@@ -88,67 +71,41 @@ fn low(h: u64) -> u32
 fn hash_any(bytes: &[u8]) -> u32
     ensures { result ≡ hash_of bytes.now }
 {
-    let mut h: u64 = 0;
-    let mut i = 0;
-    while bytes.len() - i >= 8 {
-        h = add_to_hash(h, read_u64(bytes, i));
-        i += 8;
+    let mut hash = 0;
+    let mut rest = bytes;
+    while let Some((chunk, after)) = rest.split_first_chunk::<8>() {
+        hash = add_to_hash(hash, u64::from_le_bytes(*chunk));
+        rest = after;
     }
-    if bytes.len() - i >= 4 {
-        h = add_to_hash(h, wide64(read_u32(bytes, i)));
-        i += 4;
+    if let Some((chunk, after)) = rest.split_first_chunk::<4>() {
+        hash = add_to_hash(hash, u64::from(u32::from_le_bytes(*chunk)));
+        rest = after;
     }
-    let has_two = bytes.len() - i >= 2;
-    if has_two {
-        h = add_to_hash(h, wide64(wide32(read_u16(bytes, i))));
-        i += 2;
+    if let Some((chunk, after)) = rest.split_first_chunk::<2>() {
+        hash = add_to_hash(hash, u64::from(u16::from_le_bytes(*chunk)));
+        rest = after;
     }
-    if bytes.len() - i >= 1 {
-        h = add_to_hash(h, wide64(wide32(wide16(bytes[i]))));
+    if let Some(byte) = rest.first() {
+        hash = add_to_hash(hash, u64::from(*byte));
     }
-    low(h)
+    low(hash)
 }
 
-// The chunks of the lengths that most keys have, without a loop or a test.
-fn hash_8(bytes: &[u8]) -> u32
-    requires { length bytes.now ≡ 8 }
-    ensures { result ≡ hash_of bytes.now }
-{
-    low(add_to_hash(0, read_u64(bytes, 0)))
-}
-
-fn hash_13(bytes: &[u8]) -> u32
-    requires { length bytes.now ≡ 13 }
-    ensures { result ≡ hash_of bytes.now }
-{
-    let first = add_to_hash(0, read_u64(bytes, 0));
-    let next = add_to_hash(first, wide64(read_u32(bytes, 8)));
-    low(add_to_hash(next, wide64(wide32(wide16(bytes[12])))))
-}
-
-fn hash_32(bytes: &[u8]) -> u32
-    requires { length bytes.now ≡ 32 }
-    ensures { result ≡ hash_of bytes.now }
-{
-    let first = add_to_hash(0, read_u64(bytes, 0));
-    let second = add_to_hash(first, read_u64(bytes, 8));
-    let third = add_to_hash(second, read_u64(bytes, 16));
-    low(add_to_hash(third, read_u64(bytes, 24)))
-}
-
-// Eight bytes are asked for first and apart: three `==` in a row the compiler would ask in an order of its own.
+// The lengths that most keys have are asked for, since a length that is known takes no loop and no test of what remains.
+// Eight bytes come first and apart: three `==` in a row the compiler would ask in an order of its own. Their one chunk is
+// written out, since only so does it take a multiply of 32 bits.
 pub fn hash(bytes: &[u8]) -> u32
     ensures { result ≡ hash_of bytes.now }
 {
-    if bytes.len() == 8 {
-        return hash_8(bytes);
+    if let Some(key) = bytes.as_array() {
+        return low(add_to_hash(0, u64::from_le_bytes(*key)));
     }
     if bytes.len() > 8 {
-        if bytes.len() == 13 {
-            return hash_13(bytes);
+        if let Some(barcode) = bytes.as_array::<13>() {
+            return hash_any(barcode);
         }
-        if bytes.len() == 32 {
-            return hash_32(bytes);
+        if let Some(digest) = bytes.as_array::<32>() {
+            return hash_any(digest);
         }
     }
     hash_any(bytes)
@@ -165,5 +122,5 @@ pub fn h1(h: u32) -> usize
 pub fn h2(h: u32) -> u8
     ensures { (result ≡ tag h) × (result < 128) }
 {
-    (h / 0x0200_0000) as u8
+    (h >> 25) as u8
 }

@@ -1,3 +1,2 @@
-pub mod XorLaws
 pub mod QueryLaws
 pub mod MarkLaws

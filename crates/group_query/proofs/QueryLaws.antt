@@ -3,12 +3,15 @@
 use Rattle.std.proofs.Common.{◌≡◌, ℕ, zero, suc, ◌+◌, ◌-◌, ◌*◌, ◌/◌, ◌%◌, ◌^◌, ◌<◌, ◌≤◌, Bool, true, false, ltb, leb, List, [], ◌∷◌, map, length, replicate, sym, refl, ap, ◌∙◌, subst, ap₂, add-zero, mod-eq_of_lt, mul_assoc, pow-suc, div-add-mod', arith, lit<, ltb-false, ltb-true, le-ltb, eq-eqb, ne_eqb, leb-false, leb-true}
 use native.Mathlib.Nat.{add-mul-mod_self_right}
 use lib.ListN.{length-map}
-use lib.Bits.{bit_and, bit_xor, xor_block, and_block, and_high, and_shifted, and_le_l, xor_lt, xor_self, xor_comm}
+use lib.Bits.{bit_and, bit_xor, xor_block, and_block, and_high, and_shifted, and_le_l, xor_lt, xor_self, xor_comm, xor_assoc, xor_zero_r}
 use Rattle.rules.specs.Bytes.{le}
 use Rattle.rules.specs.Group.{hit, reports_after, reports}
 use Rattle.group_query.specs.Marks.{bit, word, empties}
 use Rattle.rules.proofs.BytesLaws.{Bytes, le_lt}
-use Rattle.group_query.proofs.XorLaws.{xor_cancel}
+
+-- xor undoes itself
+xor_cancel : (a b : ℕ) → bit_xor (bit_xor a b) b ≡ a
+xor_cancel a b = xor_assoc a b b ∙ ap (bit_xor a) (xor_self b) ∙ xor_zero_r a
 
 -- 1 for a borrow
 abbrev pub num : Bool → ℕ

@@ -1,7 +1,6 @@
 -- How marks of positions stand in a word, for any width: bit 0x80 of byte m for position m.
-use Rattle.std.specs.Prelude.{Option, Some, None, ℕ, ◌+◌, ◌*◌, Bool, true, false, List, [], ◌∷◌}
-use Rattle.std.proofs.Math.Option as Maybe
-use Rattle.std.proofs.Math.Option.{none, some}
+use Rattle.std.specs.Prelude.{ℕ, ◌+◌, ◌*◌, Bool, true, false, List, [], ◌∷◌, Option, Some, None}
+use mathlib.Core.Option as maybe
 use Rattle.rules.specs.Layout.{is_empty}
 
 -- 0x80 for a mark
@@ -26,6 +25,6 @@ others (true ∷ ms) = false ∷ ms
 others (false ∷ ms) = false ∷ others ms
 
 -- the position that an answer tells
-abbrev pub said_first : Option ℕ → Maybe.Option ℕ
-said_first (Some m) = some m
-said_first None = none
+abbrev pub said_first : Option ℕ → maybe.Option ℕ
+said_first (Some m) = maybe.some m
+said_first None = maybe.none

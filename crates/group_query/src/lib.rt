@@ -10,32 +10,27 @@ ghost use Rattle.rules.specs.Group.{reports, positions, first_empty};
 ghost use Rattle.group_query.specs.Marks.{word, empties, others, said_first};
 
 // The reported positions and the empty ones, each as a mask: bit 0x80 of byte m for position m.
-#[derive(Clone, Copy)]
+#[derive(Clone, Copy, Debug, PartialEq, Eq)]
 pub struct GroupQuery {
     pub eq: u64,
     pub empty: u64,
 }
 
-fn wide(x: u8) -> u64
-    ensures { (result ≡ x) × (result < 2 ^ 8) }
-{
-    x as u64
-}
-
 // A byte in each place of a word.
+#[tactic(auto, unfolding(rules::specs::Bytes::le))]
 fn repeat(byte: u8) -> u64
     ensures { result ≡ le (replicate 8 byte) }
 {
-    wide(byte) * 0x0101_0101_0101_0101
+    u64::from(byte) * 0x0101_0101_0101_0101
 }
 
 fn lowest_byte(mask: u64) -> usize
     ensures { result ≡ count_trailing_zeros 64 mask / 8 }
 {
-    (u64::trailing_zeros(mask) / 8) as usize
+    (mask.trailing_zeros() / 8) as usize
 }
 
-// The lowest marked position of a mask that has one.
+// The lowest marked position of a mask that has one. This and the next take the mask as a number: docs/PROMISES.md names them.
 pub fn lowest_of(mask: u64) -> usize
     requires { 0 < mask }
     ensures { (ms : List Bool) → length ms ≡ 8 → mask ≡ word ms → (result < 8) × (positions 0 ms ≡ result ∷ positions 0 (others ms)) }
@@ -59,13 +54,14 @@ impl GroupQuery {
     {
         let group = fxhash::read_u64(metadata, at);
         let cmp = group ^ repeat(h2);
-        let low = std::num::wrapping_sub_u64(cmp, 0x0101_0101_0101_0101);
+        let low = cmp.wrapping_sub(0x0101_0101_0101_0101);
         GroupQuery {
             eq: (!cmp & 0x8080_8080_8080_8080) & low,
             empty: group & 0x8080_8080_8080_8080,
         }
     }
 
+    #[tactic(auto, using(crate::proofs::MarkLaws::any_empty))]
     pub fn any_empty(self) -> bool
         ensures { (group : List ℕ) → self.empty ≡ word (empties group) → result ≡ some_of (λ b. is_empty b) group }
     {

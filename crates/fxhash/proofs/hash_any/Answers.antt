@@ -1,55 +1,48 @@
-use Rattle.std.proofs.Common.{◌≡◌, ℕ, ◌/◌, ◌%◌, ◌^◌, ◌≤◌, [], ◌∷◌, length, drop, sym, ap, ◌∙◌, arith, rules}
-use Rattle.rules.specs.Hash.{eights, chunks, hash_of}
-use Rattle.rules.proofs.BytesLaws.{part_one}
-use Rattle.rules.proofs.HashLaws.{once_taken, once_left, eight_taken, eight_left}
+-- What is left to come of the hash stays the same by each chunk that goes in, and by each width that too few bytes are left for.
+use Rattle.std.proofs.Common.{◌≡◌, ◌∷◌, [], ◌%◌, ◌/◌, ◌^◌, ℕ, length, arith, sym, ap, ◌∙◌, rules}
+use Rattle.rules.specs.Hash.{hash_of, chunks, eights}
+use Rattle.fxhash.proofs.ChunkLaws.{eight_more, eight_none, once_more, once_none, last_more, last_none}
 use Rattle.fxhash.proofs.hash_any.Goals as goal
-use Rattle.fxhash.proofs.hash_any.Goals.{Joined-bytes-i-ge1, Joined-has_two, Joined-bytes-i-ge4, else-bytes-i-ge1, else-has_two, else-bytes-i-ge4, then-bytes-i-ge1, then-has_two, then-bytes-i-ge4}
+use Rattle.fxhash.proofs.hash_any.Goals.{in-Some-split_first_chunk, in_default-split_first_chunk, in-Some-split_first_chunk-2, in_default-split_first_chunk-2, in-Some-first, in_default-first}
 
-pub loop-i-init : goal.loop-i-init
-loop-i-init c = (search rules, ap (λ (n : ℕ). eights (n / 8) 0 c.args.bytes.now) (omega arith))
-
-pub loop-i-preserved : goal.loop-i-preserved
-loop-i-preserved c =
-    let l = c.loop-i in
-    let s = c.args.bytes.now in
-    (search rules, cc (eight_taken l.h l.i s (omega arith)))
-
--- where the ways past a chunk's test meet, the rest of the hash is still to come
-joined1 : (c : Joined-bytes-i-ge4)
-    → (c.if-bytes-i-ge4.i ≤ length c.args.bytes.now)
-    × (chunks (2 ∷ 1 ∷ []) c.if-bytes-i-ge4.h (drop c.if-bytes-i-ge4.i c.args.bytes.now)
-    ≡ eights (length c.args.bytes.now / 8) 0 c.args.bytes.now)
-joined1 c =
-    let l = c.loop-i in
-    let s = c.args.bytes.now in
-    let e = sym (eight_left l.h l.i s (omega arith)) ∙ l.invariant.1 in
-    elim c.if-bytes-i-ge4.branch [ then-bytes-i-ge4 w ↦ (omega arith, cc (once_taken 4 (2 ∷ 1 ∷ []) l.h l.i s (omega arith))) | else-bytes-i-ge4 w ↦ (omega arith, cc (once_left 4 (2 ∷ 1 ∷ []) l.h l.i s (omega arith) (omega arith))) ]
-
-joined2 : (c : Joined-has_two)
-    → (c.if-has_two.i ≤ length c.args.bytes.now)
-    × (chunks (1 ∷ []) c.if-has_two.h (drop c.if-has_two.i c.args.bytes.now)
-    ≡ eights (length c.args.bytes.now / 8) 0 c.args.bytes.now)
-joined2 c =
-    let l = c.if-bytes-i-ge4 in
-    let s = c.args.bytes.now in
-    let e = joined1 (goal.at.Joined-has_two c).Joined-bytes-i-ge4 in
-    elim c.if-has_two.branch [ then-has_two w ↦ (omega arith, cc (once_taken 2 (1 ∷ []) l.h l.i s (omega arith), e.1)) | else-has_two w ↦ (omega arith, cc (once_left 2 (1 ∷ []) l.h l.i s (omega arith) (omega arith), e.1)) ]
-
-pub overflow_sub-has_two : goal.overflow_sub-has_two
-overflow_sub-has_two c = omega (arith, joined1 (goal.at.overflow_sub-has_two c).Joined-bytes-i-ge4)
-
-pub overflow_sub-bytes-3 : goal.overflow_sub-bytes-3
-overflow_sub-bytes-3 c = omega (arith, joined2 (goal.at.overflow_sub-bytes-3 c).Joined-has_two)
-
-joined3 : (c : Joined-bytes-i-ge1)
-    → c.if-bytes-i-ge1.h ≡ eights (length c.args.bytes.now / 8) 0 c.args.bytes.now
-unfolding chunks
-joined3 c =
-    let l = c.if-has_two in
-    let s = c.args.bytes.now in
-    let e = joined2 (goal.at.Joined-bytes-i-ge1 c).Joined-has_two in
-    elim c.if-bytes-i-ge1.branch [ then-bytes-i-ge1 w ↦ cc (once_taken 1 [] l.h l.i s (omega arith), part_one l.i s (omega arith), e.1) | else-bytes-i-ge1 w ↦ cc (once_left 1 [] l.h l.i s (omega arith) (omega arith), e.1) ]
+pub loop-chunk-preserved : goal.loop-chunk-preserved
+loop-chunk-preserved c =
+    let l = c.loop-chunk in
+    let some = c.in-Some in
+    sym (eight_more l.hash l.rest.now some.chunk.now some.after.now some.ensures.cases _ c.from_le_bytes.ensures _ c.add_to_hash-hash.ensures) ∙ l.invariant
 
 pub returns : goal.returns
 unfolding hash_of
-returns c = c.low.ensures ∙ ap (λ (n : ℕ). n % 2 ^ 32) (joined3 (goal.at.returns c).Joined-bytes-i-ge1)
+returns c =
+    let n = eights (length c.args.bytes.now / 8) 0 c.args.bytes.now in
+    let l = c.loop-chunk in
+    let four = c.match-split_first_chunk-2 in
+    let two = c.match-split_first_chunk-3 in
+    let e : chunks (4 ∷ 2 ∷ 1 ∷ []) l.hash l.rest.now ≡ n = sym (eight_none l.hash l.rest.now (search rules)) ∙ l.invariant in
+    let f : chunks (2 ∷ 1 ∷ []) four.hash four.rest.now ≡ n =
+    elim four.branch [
+      | in-Some-split_first_chunk w ↦
+          let some = w.in-Some-split_first_chunk in
+          let read = w.from.ensures ∙ w.from_le_bytes-in-Some-split_first_chunk.ensures in
+          rw (w.hash-is, w.rest-is)
+          (sym (once_more l.hash l.rest.now 3 (2 ∷ 1 ∷ []) some.chunk.now some.after.now some.ensures.cases _ read _ w.add_to_hash-hash-in-Some-split_first_chunk.ensures) ∙ e)
+      | in_default-split_first_chunk w ↦ rw (w.hash-is, w.rest-is) (sym (once_none l.hash l.rest.now 4 (2 ∷ 1 ∷ []) w.in_default-split_first_chunk.ensures.cases) ∙ e)
+    ]
+    in
+    let g : chunks (1 ∷ []) two.hash two.rest.now ≡ n =
+    elim two.branch [
+      | in-Some-split_first_chunk-2 w ↦
+          let some = w.in-Some-split_first_chunk-2 in
+          let read = w.from-in-Some-split_first_chunk-2.ensures ∙ w.from_le_bytes-in-Some-split_first_chunk-2.ensures in
+          rw (w.hash-is, w.rest-is)
+          (sym (once_more four.hash four.rest.now 1 (1 ∷ []) some.chunk.now some.after.now some.ensures.cases _ read _ w.add_to_hash-hash-in-Some-split_first_chunk-2.ensures) ∙ f)
+      | in_default-split_first_chunk-2 w ↦ rw (w.hash-is, w.rest-is) (sym (once_none four.hash four.rest.now 2 (1 ∷ []) w.in_default-split_first_chunk-2.ensures.cases) ∙ f)
+    ]
+    in
+    c.low.ensures ∙ ap (λ (n : ℕ). n % 2 ^ 32) {x = c.match-first.hash}
+    (elim c.match-first.branch [
+      | in-Some-first w ↦
+          let byte = w.in-Some-first.ensures.item.3 in
+          rw w.hash-is (sym (last_more two.hash two.rest.now byte.0 _ (w.from-in-Some-first.ensures ∙ byte.1 0) _ w.add_to_hash-hash-in-Some-first.ensures) ∙ g)
+      | in_default-first w ↦ rw w.hash-is (sym (last_none two.hash two.rest.now (omega (arith, w.in_default-first.ensures.item.3))) ∙ g)
+    ])

@@ -1,10 +1,10 @@
--- The invariant: the hash of the bytes is what the rest from i on makes of h. Behind the loop each width is taken or left, by one law over the width.
-use Rattle.std.proofs.Common.{◌≡◌, ◌-◌, ◌/◌, ◌≤◌, length, drop}
+-- The invariant: the hash of the bytes is what the rest makes of the hash so far.
+use Rattle.std.proofs.Common.{◌≡◌, ◌/◌, length}
 use Rattle.rules.specs.Hash.{eights}
 use Rattle.fxhash.proofs.hash_any.Given as goal
 
-abbrev pub invariant-loop-i : goal.invariant-loop-i
-invariant-loop-i l = (l.i ≤ length l.bytes) × (eights ((length l.bytes - l.i) / 8) l.h (drop l.i l.bytes) ≡ eights (length l.bytes / 8) 0 l.bytes)
+abbrev pub invariant-loop-chunk : goal.invariant-loop-chunk
+invariant-loop-chunk l = eights (length l.rest / 8) l.hash l.rest ≡ eights (length l.bytes / 8) 0 l.bytes
 
-abbrev pub decreases-loop-i : goal.decreases-loop-i
-decreases-loop-i l = length l.bytes - l.i
+abbrev pub decreases-loop-chunk : goal.decreases-loop-chunk
+decreases-loop-chunk l = length l.rest
