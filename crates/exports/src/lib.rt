@@ -30,11 +30,11 @@ pub fn tally_init(
     ensures answer_after { answer.new ≡ holds answer.old (numbers (init_answer book.old k v slots)) answer.old }
     ensures book_after { book.new ≡ holds answer.old (init_book book.old k v slots count load) book.old }
 {
-    if answer.len() != 8 {
+    let Some(answer) = answer.as_mut_array::<8>() else {
         return 1;
-    }
-    let numbers: AnswerNumbers = init_in_place(book, k, v, slots, count, load).into();
-    answer.copy_from_slice(&numbers.0);
+    };
+    let AnswerNumbers(numbers) = init_in_place(book, k, v, slots, count, load).into();
+    *answer = numbers;
     0
 }
 
@@ -42,11 +42,11 @@ pub fn tally_open(book: &[u8], k: usize, v: usize, answer: &mut [u64]) -> u64
     ensures status { result ≡ returned answer.old }
     ensures answer_after { answer.new ≡ holds answer.old (numbers (open_answer book.now k v)) answer.old }
 {
-    if answer.len() != 8 {
+    let Some(answer) = answer.as_mut_array::<8>() else {
         return 1;
-    }
-    let numbers: AnswerNumbers = open(book, k, v).into();
-    answer.copy_from_slice(&numbers.0);
+    };
+    let AnswerNumbers(numbers) = open(book, k, v).into();
+    *answer = numbers;
     0
 }
 
@@ -55,11 +55,11 @@ pub fn tally_check(book: &[u8], k: usize, v: usize, answer: &mut [u64]) -> u64
     ensures status { result ≡ returned answer.old }
     ensures answer_after { answer.new ≡ holds answer.old (numbers (check_answer book.now k v)) answer.old }
 {
-    if answer.len() != 8 {
+    let Some(answer) = answer.as_mut_array::<8>() else {
         return 1;
-    }
-    let numbers: AnswerNumbers = check_book(book, k, v).into();
-    answer.copy_from_slice(&numbers.0);
+    };
+    let AnswerNumbers(numbers) = check_book(book, k, v).into();
+    *answer = numbers;
     0
 }
 
@@ -68,10 +68,11 @@ pub fn tally_value(book: &[u8], k: usize, v: usize, key: &[u8], answer: &mut [u6
     ensures status { result ≡ returned answer.old }
     ensures answer_after { answer.new ≡ holds answer.old (value_numbers k v (find_answer book.now k v key.now)) answer.old }
 {
-    if answer.len() != 8 {
+    let Some(answer) = answer.as_mut_array::<8>() else {
         return 1;
-    }
-    answer.copy_from_slice(&value_numbers(book, k, v, key).0);
+    };
+    let AnswerNumbers(numbers) = value_numbers(book, k, v, key);
+    *answer = numbers;
     0
 }
 
@@ -80,10 +81,10 @@ pub fn tally_next(book: &[u8], k: usize, v: usize, from: usize, answer: &mut [u6
     ensures status { result ≡ returned answer.old }
     ensures answer_after { answer.new ≡ holds answer.old (numbers (next_answer book.now k v from)) answer.old }
 {
-    if answer.len() != 8 {
+    let Some(answer) = answer.as_mut_array::<8>() else {
         return 1;
-    }
-    let numbers: AnswerNumbers = next_occupied(book, k, v, from).into();
-    answer.copy_from_slice(&numbers.0);
+    };
+    let AnswerNumbers(numbers) = next_occupied(book, k, v, from).into();
+    *answer = numbers;
     0
 }

@@ -12,10 +12,10 @@ pub fn tally_find(book: &[u8], k: usize, v: usize, key: &[u8], answer: &mut [u64
     ensures status { result ≡ returned answer.old }
     ensures answer_after { answer.new ≡ holds answer.old (numbers (find_answer book.now k v key.now)) answer.old }
 {
-    if answer.len() != 8 {
+    let Some(answer) = answer.as_mut_array::<8>() else {
         return 1;
-    }
-    let numbers: AnswerNumbers = find(book, k, v, key).into();
-    answer.copy_from_slice(&numbers.0);
+    };
+    let AnswerNumbers(numbers) = find(book, k, v, key).into();
+    *answer = numbers;
     0
 }

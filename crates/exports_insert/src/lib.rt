@@ -23,10 +23,10 @@ pub fn tally_insert(
     ensures book_after { book.new ≡ holds answer.old (insert_book book.old k v key.now value.now old.old) book.old }
     ensures old_after { old.new ≡ holds answer.old (insert_old book.old k v key.now value.now old.old) old.old }
 {
-    if answer.len() != 8 {
+    let Some(answer) = answer.as_mut_array::<8>() else {
         return 1;
-    }
-    let numbers: AnswerNumbers = insert(book, k, v, key, value, old).into();
-    answer.copy_from_slice(&numbers.0);
+    };
+    let AnswerNumbers(numbers) = insert(book, k, v, key, value, old).into();
+    *answer = numbers;
     0
 }

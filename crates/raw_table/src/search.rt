@@ -52,6 +52,7 @@ pub fn equals(a: &[u8], b: &[u8]) -> bool
 }
 
 // Whether a slot holds the key.
+#[inline]
 pub fn holds(table: &Table, slot: Slot, key: &[u8]) -> bool
     requires { slot.0 < table.now.slots.n }
     ensures { result ≡ same_bytes (key_in table.now slot.0) key.now }
@@ -72,20 +73,21 @@ fn query_at(table: &Table, p: Position, h2: u8) -> GroupQuery
 }
 
 // The search from a group on, those before it having decided nothing.
-fn search_from(table: &Table, key: &[u8], h2: u8, from: ProbeSeq, before: usize) -> Spot
-    requires { (h2 ≡ tag_of key.now) × (before ≤ table.now.slots.n / 8) × (from ≡ seq_at (start_of table.now.slots.n key.now) table.now.slots.n before) }
-    ensures { said_spot result ≡ search_from 8 reports table.now.bytes.now table.now.sizes.k table.now.sizes.v table.now.slots.n key.now (table.now.slots.n / 8 - before) before }
+#[inline(never)]
+fn search_from(table: Table, key: &[u8], h2: u8, from: ProbeSeq, before: usize) -> Spot
+    requires { (h2 ≡ tag_of key.now) × (before ≤ table.slots.n / 8) × (from ≡ seq_at (start_of table.slots.n key.now) table.slots.n before) }
+    ensures { said_spot result ≡ search_from 8 reports table.entry.bytes.now table.entry.sizes.k table.entry.sizes.v table.entry.slots.n key.now (table.entry.slots.n / 8 - before) before }
 {
     let slots = table.slots;
     let groups = slots.n / 8;
     let mut ps = from;
     for n in before..groups {
         let p = Position(ps.index);
-        let query = query_at(table, p, h2);
+        let query = query_at(&table, p, h2);
         let mut left = query.eq;
         while left != 0 {
             let slot = slots.slot_of(p, lowest_of(left));
-            if holds(table, slot, key) {
+            if holds(&table, slot, key) {
                 return Spot::Same(slot, n + 1);
             }
             left = without_lowest(left);
@@ -122,5 +124,5 @@ pub fn search(table: &Table, key: &[u8]) -> Spot
         ps = ps.advance(slots);
         n = 1;
     }
-    search_from(table, key, h2, ps, n)
+    search_from(*table, key, h2, ps, n)
 }

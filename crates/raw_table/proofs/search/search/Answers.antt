@@ -137,7 +137,7 @@ advance-ps-requires c =
     seq_room (start_of t.slots.n a.key.now) t.slots.n 0 c.new-ps.result (begun (goal.at.advance-ps-requires c).After-new-ps) s (mod-lt _ (omega (arith, s.least))) (some_group (goal.at.advance-ps-requires c).After-new-ps)
 
 pub search_from-requires : goal.search_from-requires
-search_from-requires c = let j = joined c in (tag_is (goal.at.search_from-requires c).After-new-ps, j.0, j.1)
+search_from-requires c = let j = joined (goal.at.search_from-requires c).Joined-has_candidate in (tag_is (goal.at.search_from-requires c).After-new-ps, j.0, j.1)
 
 pub returns : goal.returns
 returns c = c.search_from.ensures ∙ sym (joined (goal.at.returns c).Joined-has_candidate).2

@@ -22,53 +22,53 @@ use Rattle.raw_table.proofs.search.search_from.Goals.{After-first_empty, After-h
 
 -- where a turn's group starts
 start_is : (c : In-loop-n)
-    → (c.loop-n.ps.index ≡ group_start 8 (start_of c.args.table.now.slots.n c.args.key.now) c.args.table.now.slots.n c.loop-n.n)
-    × (c.loop-n.ps.index < c.args.table.now.slots.n)
+    → (c.loop-n.ps.index ≡ group_start 8 (start_of c.args.table.slots.n c.args.key.now) c.args.table.slots.n c.loop-n.n)
+    × (c.loop-n.ps.index < c.args.table.slots.n)
 start_is c =
     let a = c.args in
-    let t = a.table.now in
+    let t = a.table in
     seq_stands (start_of t.slots.n a.key.now) t.slots.n c.loop-n.n c.loop-n.ps c.loop-n.invariant.1 t.slots.is_count
 
 -- what the query says of the group's empty positions
 empty_is : (c : After-first_empty)
-    → said_first c.first_empty.result ≡ first_empty (group_at 8 c.args.table.now.bytes.now c.args.table.now.sizes.k c.args.table.now.sizes.v c.args.table.now.slots.n c.loop-n.ps.index)
+    → said_first c.first_empty.result ≡ first_empty (group_at 8 c.args.table.bytes.now c.args.table.sizes.k c.args.table.sizes.v c.args.table.slots.n c.loop-n.ps.index)
 empty_is c =
     let a = c.args in
-    let t = a.table.now in
+    let t = a.table in
     let p = c.loop-n.ps.index in
     c.first_empty.ensures (group_at 8 t.bytes.now t.sizes.k t.sizes.v t.slots.n p) (group_long t.bytes.now a.key.now t.sizes.k t.sizes.v t.slots.n p (passed_in t) (start_is (goal.at.After-first_empty c).In-loop-n).1) c.query_at-query.ensures.1
 
 -- no candidate has the key
 no_key : (c : After-loop-left)
-    → equal_key 8 reports c.args.table.now.bytes.now c.args.table.now.sizes.k c.args.table.now.sizes.v c.args.table.now.slots.n c.args.key.now c.loop-n.ps.index ≡ none
+    → equal_key 8 reports c.args.table.bytes.now c.args.table.sizes.k c.args.table.sizes.v c.args.table.slots.n c.args.key.now c.loop-n.ps.index ≡ none
 no_key c =
     let a = c.args in
-    let t = a.table.now in
+    let t = a.table in
     none_left t.bytes.now a.key.now t.sizes.k t.sizes.v t.slots.n c.loop-n.ps.index c.loop-left.left c.loop-left.invariant c.loop-left-test.false
 
 -- the lowest candidate has the key, or not
 tried_is : (c : After-holds)
-    → Holds c.args.table.now.bytes.now c.args.key.now c.args.table.now.sizes.k c.args.table.now.sizes.v c.args.table.now.slots.n c.loop-n.ps.index c.lowest_of.result ≡ c.holds.result
+    → Holds c.args.table.bytes.now c.args.key.now c.args.table.sizes.k c.args.table.sizes.v c.args.table.slots.n c.loop-n.ps.index c.lowest_of.result ≡ c.holds.result
 tried_is c =
     let a = c.args in
-    let t = a.table.now in
+    let t = a.table in
     ap (λ (i : ℕ). same_bytes (key_of t.bytes.now t.sizes.k t.sizes.v i) a.key.now) (sym c.slot_of-slot.ensures.0) ∙ sym c.holds.ensures
 
 -- the first empty position, where the query tells one
 hole_is : (c : In-Some)
-    → first_empty (group_at 8 c.args.table.now.bytes.now c.args.table.now.sizes.k c.args.table.now.sizes.v c.args.table.now.slots.n c.loop-n.ps.index) ≡ some c.in-Some.m
+    → first_empty (group_at 8 c.args.table.bytes.now c.args.table.sizes.k c.args.table.sizes.v c.args.table.slots.n c.loop-n.ps.index) ≡ some c.in-Some.m
 hole_is c = sym (empty_is (goal.at.In-Some c).After-first_empty) ∙ ap said_first c.in-Some.is
 
 pub loop-n-init : goal.loop-n-init
 loop-n-init c = (c.requires.1, c.requires.2, refl)
 
 pub query_at-query-requires : goal.query_at-query-requires
-query_at-query-requires c = (start_is c).1
+query_at-query-requires c = (start_is (goal.at.query_at-query-requires c).In-loop-n).1
 
 pub loop-left-init : goal.loop-left-init
 loop-left-init c =
     let a = c.args in
-    let t = a.table.now in
+    let t = a.table in
     let p = c.loop-n.ps.index in
     let e = c.query_at-query.ensures.0 ∙ ap (λ (h : ℕ). word (reports h (group_at 8 t.bytes.now t.sizes.k t.sizes.v t.slots.n p))) c.requires.0 in
     all_left t.bytes.now a.key.now t.sizes.k t.sizes.v t.slots.n p (passed_in t) (start_is (goal.at.loop-left-init c).In-loop-n).1 c.query_at-query.result.eq e
@@ -76,7 +76,7 @@ loop-left-init c =
 pub slot_of-slot-requires : goal.slot_of-slot-requires
 slot_of-slot-requires c =
     let a = c.args in
-    let t = a.table.now in
+    let t = a.table in
     let l = lowest_lt t.bytes.now a.key.now t.sizes.k t.sizes.v t.slots.n c.loop-n.ps.index c.loop-left.left c.lowest_of.result c.loop-left.invariant c.lowest_of.ensures in
     ((start_is (goal.at.slot_of-slot-requires c).In-loop-n).1, omega (arith, l))
 
@@ -84,21 +84,21 @@ pub loop-left-smaller : goal.loop-left-smaller
 loop-left-smaller c =
     let l = c.loop-left in
     let a = c.args in
-    let t = a.table.now in
+    let t = a.table in
     rest_less t.bytes.now a.key.now t.sizes.k t.sizes.v t.slots.n c.loop-n.ps.index l.left c.without_lowest-left.result l.invariant c.without_lowest-left.ensures
 
 pub loop-left-preserved : goal.loop-left-preserved
 loop-left-preserved c =
     let l = c.loop-left in
     let a = c.args in
-    let t = a.table.now in
+    let t = a.table in
     tried_no t.bytes.now a.key.now t.sizes.k t.sizes.v t.slots.n c.loop-n.ps.index l.left c.lowest_of.result c.without_lowest-left.result
     l.invariant c.lowest_of.ensures c.without_lowest-left.ensures (tried_is (goal.at.loop-left-preserved c).After-holds ∙ c.if-holds.false)
 
 pub slot_of-requires : goal.slot_of-requires
 slot_of-requires c =
     let a = c.args in
-    let t = a.table.now in
+    let t = a.table in
     let p = c.loop-n.ps.index in
     let l = empty_lt (group_at 8 t.bytes.now t.sizes.k t.sizes.v t.slots.n p) c.in-Some.m (hole_is c) in
     ((start_is (goal.at.slot_of-requires c).In-loop-n).1, omega (arith, l, group_long t.bytes.now a.key.now t.sizes.k t.sizes.v t.slots.n p (passed_in t) (start_is (goal.at.slot_of-requires c).In-loop-n).1))
@@ -106,14 +106,14 @@ slot_of-requires c =
 pub advance-ps-requires : goal.advance-ps-requires
 advance-ps-requires c =
     let a = c.args in
-    let t = a.table.now in
+    let t = a.table in
     let s = t.slots.is_count in
     seq_room (start_of t.slots.n a.key.now) t.slots.n c.loop-n.n c.loop-n.ps c.loop-n.invariant.1 s (mod-lt _ (omega (arith, s.least))) c.loop-n-test.true
 
 pub loop-n-preserved : goal.loop-n-preserved
 loop-n-preserved c =
     let a = c.args in
-    let t = a.table.now in
+    let t = a.table in
     let l = c.loop-n in
     let b = start_of t.slots.n a.key.now in (
       omega (arith, c.loop-n-test.true),
@@ -125,7 +125,7 @@ loop-n-preserved c =
 pub returns : goal.returns
 returns c =
     let a = c.args in
-    let t = a.table.now in
+    let t = a.table in
     let l = c.loop-n in
     ap full (omega arith)
     ∙ sym (l.invariant.2 ∙ at_end 8 reports t.bytes.now t.sizes.k t.sizes.v t.slots.n a.key.now (t.slots.n / 8) l.n (omega arith))
@@ -133,7 +133,7 @@ returns c =
 pub returns-then-holds : goal.returns-then-holds
 returns-then-holds c =
     let a = c.args in
-    let t = a.table.now in
+    let t = a.table in
     let l = c.loop-n in
     let o = c.loop-left in
     let m = c.lowest_of in
@@ -144,7 +144,7 @@ returns-then-holds c =
 pub returns-in-Some : goal.returns-in-Some
 returns-in-Some c =
     let a = c.args in
-    let t = a.table.now in
+    let t = a.table in
     let l = c.loop-n in
     ap (λ (i : ℕ). free i (l.n + 1)) c.slot_of.ensures.0
     ∙ sym (l.invariant.2 ∙ at_free 8 reports t.bytes.now t.sizes.k t.sizes.v t.slots.n a.key.now (t.slots.n / 8) l.n l.ps.index c.loop-n-test.true (start_is (goal.at.returns-in-Some c).In-loop-n).0 c.in-Some.m (no_key (goal.at.returns-in-Some c).After-loop-left) (hole_is (goal.at.returns-in-Some c).In-Some))
