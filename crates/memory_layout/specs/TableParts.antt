@@ -12,6 +12,10 @@ unfoldable pub said_table : Result Table Refusal → Checked
 said_table (Ok t) = passed t.slots.n
 said_table (Err r) = failed (said_refusal r)
 
+-- what the rules say of a book's bytes, sizes and slot count, said of a table
+abbrev pub in_table : {A : Type 0} → Table → (List ℕ → ℕ → ℕ → ℕ → A) → A
+in_table t says = says t.bytes.now t.sizes.k t.sizes.v t.slots.n
+
 module _ (t : Table) (i : ℕ) where
   abbrev pub control_in : ℕ
   control_in = control t.bytes.now t.sizes.k t.sizes.v t.slots.n i
