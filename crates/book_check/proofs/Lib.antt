@@ -1,3 +1,2 @@
-pub mod LoopLaws
+pub mod RangeLaws
 pub mod TwinLaws
-pub mod SaidOnce

@@ -16,7 +16,7 @@ use Rattle.rules.proofs.BytesLaws.{same_is}
 use Rattle.rules.proofs.FirstLaws.{fails_none, each_number}
 use Rattle.rules.proofs.TestLaws.{impossible}
 use Rattle.book_check.specs.Quick.{leads_to, found_own, stands_in}
-use Rattle.book_check.proofs.LoopLaws.{each_one}
+use Rattle.book_check.proofs.RangeLaws.{each_one}
 
 leads_once : (i j : ℕ) (p : Spot) → leads_to i p ≡ true → leads_to j p ≡ true → i ≡ j
 unfolding leads_to

@@ -1,34 +1,31 @@
 // Row 15: each of the sixteen mirrors equals its control byte.
 ghost use Rattle.std.specs.Prelude.{◌≡◌, ◌<◌};
-ghost use Rattle.rules.specs.Bounds.{Passed};
 ghost use Rattle.rules.specs.First.{numbers, first_of};
 ghost use Rattle.rules.specs.Rows.{row_at};
 ghost use Rattle.rules.specs.Check.{mirror_differs};
-ghost use Rattle.raw_slots.specs.SaidOpen.{said_fault};
+ghost use Rattle.memory_layout.specs.Said.{said_row};
+ghost use Rattle.memory_layout.specs.TableParts.{in_table};
 
-use memory_layout::kinds::{Slot, control_offset, mirror_of};
-use memory_layout::refusal::fault_at;
-use raw_slots::open::Fault;
-use raw_slots::slot::control_byte;
+use memory_layout::kinds::Slot;
+use memory_layout::refusal::Refusal;
+use memory_layout::table::Table;
+use raw_slots::slot::lowest;
 
-fn mirror_differs(book: &[u8], slot: Slot, k: usize, v: usize, slots: usize) -> bool
-    requires { Passed book.now k v slots × (slot.0 < 16) }
-    ensures { result ≡ mirror_differs book.now k v slots slot.0 }
+#[tactic(auto, unfolding(rules::specs::Check::mirror_differs))]
+fn mirror_differs(table: &Table, slot: Slot) -> bool
+    requires { slot.0 < 16 }
+    ensures { result ≡ in_table table.now mirror_differs slot.0 }
 {
-    let at = control_offset(mirror_of(slot, slots), k, v, slots).0;
-    book[at] != control_byte(book, slot, k, v, slots)
+    let mirror = table.slots.mirror_of(slot);
+    let at = table.sizes.control_offset(mirror, table.slots).0;
+    table.bytes[at] != table.control_byte(slot)
 }
 
-pub(crate) fn mirror_row(book: &[u8], k: usize, v: usize, slots: usize) -> Fault
-    requires { Passed book.now k v slots }
-    ensures { said_fault result ≡ row_at 15 (first_of (mirror_differs book.now k v slots) (numbers 0 16)) }
+pub(crate) fn mirror_row(table: &Table) -> Result<(), Refusal>
+    ensures { said_row result ≡ row_at 15 (first_of (in_table table.now mirror_differs) (numbers 0 16)) }
 {
-    let mut i = 0;
-    while i < 16 {
-        if mirror_differs(book, Slot(i), k, v, slots) {
-            return Fault::Found(fault_at(15, Slot(i)));
-        }
-        i += 1;
+    match lowest(0..16, |slot| mirror_differs(table, slot)) {
+        Some(slot) => Err(Refusal::Mirror(slot)),
+        None => Ok(()),
     }
-    Fault::Nothing
 }

@@ -1,55 +1,27 @@
 // What stands in one slot, as the rows of the check ask for it.
 ghost use Rattle.std.specs.Prelude.{◌≡◌, ◌&&◌, ◌<◌};
-ghost use Rattle.rules.specs.Bounds.{Passed};
 ghost use Rattle.rules.specs.Bytes.{same_bytes};
 ghost use Rattle.rules.specs.Hash.{start_of};
-ghost use Rattle.rules.specs.Layout.{key_of, occupied};
+ghost use Rattle.memory_layout.specs.TableParts.{occupied_in, key_in};
 
-use memory_layout::kinds::{Slot, entry_offset, wrap};
-use raw_slots::slot::{control_byte, is_empty};
+use memory_layout::kinds::Slot;
+use memory_layout::table::Table;
+use raw_slots::slot::is_occupied;
 use raw_table::search::holds;
 
-pub(crate) fn is_occupied(book: &[u8], slot: Slot, k: usize, v: usize, slots: usize) -> bool
-    requires { Passed book.now k v slots × (slot.0 < slots) }
-    ensures { result ≡ occupied book.now k v slots slot.0 }
-{
-    !is_empty(control_byte(book, slot, k, v, slots))
-}
-
-// The key that stands in a slot, as a part of the book.
-pub(crate) fn key_of(book: &[u8], slot: Slot, k: usize, v: usize, slots: usize) -> &[u8]
-    requires { Passed book.now k v slots × (slot.0 < slots) }
-    ensures { result.now ≡ key_of book.now k v slot.0 }
-{
-    let at = entry_offset(slot, k, v).0;
-    let end = at + k;
-    &book[at..end]
-}
-
 // Where the search for a slot's key starts.
-pub(crate) fn key_start(book: &[u8], slot: Slot, k: usize, v: usize, slots: usize) -> usize
-    requires { Passed book.now k v slots × (slot.0 < slots) }
-    ensures { (result ≡ start_of slots (key_of book.now k v slot.0)) × (result < slots) }
+pub(crate) fn key_start(table: &Table, slot: Slot) -> usize
+    requires { slot.0 < table.now.slots.n }
+    ensures { (result ≡ start_of table.now.slots.n (key_in table.now slot.0)) × (result < table.now.slots.n) }
 {
-    let key = key_of(book, slot, k, v, slots);
-    wrap(fxhash::h1(fxhash::hash(key)), slots)
+    let hash = fxhash::hash(table.key(slot));
+    table.slots.wrap(fxhash::h1(hash))
 }
 
 // Whether a slot is occupied, by the key of another.
-pub(crate) fn has_key_of(
-    book: &[u8],
-    slot: Slot,
-    other: Slot,
-    k: usize,
-    v: usize,
-    slots: usize,
-) -> bool
-    requires { Passed book.now k v slots × (slot.0 < slots) × (other.0 < slots) }
-    ensures { result ≡ occupied book.now k v slots slot.0 && same_bytes (key_of book.now k v slot.0) (key_of book.now k v other.0) }
+pub(crate) fn has_key_of(table: &Table, slot: Slot, other: Slot) -> bool
+    requires { (slot.0 < table.now.slots.n) × (other.0 < table.now.slots.n) }
+    ensures { result ≡ occupied_in table.now slot.0 && same_bytes (key_in table.now slot.0) (key_in table.now other.0) }
 {
-    if !is_occupied(book, slot, k, v, slots) {
-        return false;
-    }
-    let key = key_of(book, other, k, v, slots);
-    holds(book, slot, key, k, v, slots)
+    is_occupied(table, slot) && holds(table, slot, table.key(other))
 }

@@ -1,46 +1,43 @@
--- Each row counts where none before it applies, in the order of the rule.
-use mathlib.Core.Path.{◌≡◌, refl, sym, ap, ◌∙◌}
-use mathlib.Core.List.{[]}
-use mathlib.Core.Option.{none}
-use Rattle.rules.specs.First.{numbers, first_of, first_some}
-use Rattle.rules.specs.Rows.{row_at, slot_rows}
-use Rattle.rules.specs.Check.{mirror_differs, is_twin, is_lost, body_rows}
-use Rattle.rules.proofs.FirstLaws.{last_row}
-use Rattle.raw_slots.specs.SaidOpen.{said_fault}
+-- The rows go in the document's order, and the first that applies ends the look.
+use mathlib.Core.Path.{◌≡◌, ◌∙◌}
+use mathlib.Core.List.{List, ◌∷◌}
+use mathlib.Core.Option.{Option, none, some}
+use Rattle.std.proofs.lemmas.Result.{err_from_is_err_and}
+use Rattle.rules.specs.First.{first_some}
+use Rattle.rules.specs.Rows.{Refusal}
+use Rattle.rules.specs.Check.{body_rows}
+use Rattle.memory_layout.specs.Said.{said_row}
+use Rattle.raw_slots.proofs.OpenedLaws.{one_row}
 use Rattle.book_check.proofs.body_row.Goals as goal
-use Rattle.book_check.proofs.body_row.Goals.{In_default, In_default-mirror_row, In_default-twin_row}
 
--- the rows that do not apply
-slots_fine : (c : In_default)
-    → slot_rows c.args.book.now c.args.k c.args.v c.args.slots c.args.slots ≡ none
-unfolding said_fault
-slots_fine c = sym c.slot_rows.ensures ∙ ap said_fault c.in_default.is
+here : (row : Option Refusal) (later : List (Option Refusal)) (r : Refusal) → some r ≡ row → some r ≡ first_some (row ∷ later)
+unfolding first_some
+here row later r e = λ i. first_some (e i ∷ later)
 
-mirrors_fine : (c : In_default-mirror_row)
-    → row_at 15 (first_of (mirror_differs c.args.book.now c.args.k c.args.v c.args.slots) (numbers 0 16)) ≡ none
-unfolding said_fault
-mirrors_fine c = sym c.mirror_row.ensures ∙ ap said_fault c.in_default-mirror_row.is
+after : (row : Option Refusal) (later : List (Option Refusal)) (o : Option Refusal) → none ≡ row → o ≡ first_some later → o ≡ first_some (row ∷ later)
+unfolding first_some
+after row later o n e = e ∙ (λ i. first_some (n i ∷ later))
 
-no_twin : (c : In_default-twin_row)
-    → row_at 16 (first_of (is_twin c.args.book.now c.args.k c.args.v c.args.slots) (numbers 0 c.args.slots)) ≡ none
-unfolding said_fault
-no_twin c = sym c.twin_row.ensures ∙ ap said_fault c.in_default-twin_row.is
+pub returns-in_err-slot_rows : goal.returns-in_err-slot_rows
+unfolding body_rows said_row
+returns-in_err-slot_rows c =
+    let p = err_from_is_err_and c.from_residual.result c.from_residual.ensures.1 in
+    rw (p.1, p.2) (here _ _ _ c.in_err-slot_rows.ensures)
 
-pub returns-in-Found : goal.returns-in-Found
-unfolding said_fault body_rows first_some
-returns-in-Found c = rw (sym c.slot_rows.ensures ∙ ap said_fault c.in-Found.is)
+pub returns-in_err-mirror_row : goal.returns-in_err-mirror_row
+unfolding body_rows said_row
+returns-in_err-mirror_row c =
+    let p = err_from_is_err_and c.from_residual-in_err-mirror_row.result c.from_residual-in_err-mirror_row.ensures.1 in
+    rw (p.1, p.2) (after _ _ _ c.in_ok-slot_rows.ensures (here _ _ _ c.in_err-mirror_row.ensures))
 
-pub returns-in-Found-mirror_row : goal.returns-in-Found-mirror_row
-unfolding said_fault body_rows first_some
-returns-in-Found-mirror_row c = rw (slots_fine (goal.at.returns-in-Found-mirror_row c).In_default, sym c.mirror_row.ensures ∙ ap said_fault c.in-Found-mirror_row.is)
-
-pub returns-in-Found-twin_row : goal.returns-in-Found-twin_row
-unfolding said_fault body_rows first_some
-returns-in-Found-twin_row c = rw (slots_fine (goal.at.returns-in-Found-twin_row c).In_default, mirrors_fine (goal.at.returns-in-Found-twin_row c).In_default-mirror_row, sym c.twin_row.ensures ∙ ap said_fault c.in-Found-twin_row.is)
+pub returns-in_err-twin_row : goal.returns-in_err-twin_row
+unfolding body_rows said_row
+returns-in_err-twin_row c =
+    let p = err_from_is_err_and c.from_residual-in_err-twin_row.result c.from_residual-in_err-twin_row.ensures.1 in
+    rw (p.1, p.2) (after _ _ _ c.in_ok-slot_rows.ensures (after _ _ _ c.in_ok-mirror_row.ensures (here _ _ _ c.in_err-twin_row.ensures)))
 
 pub returns : goal.returns
-unfolding body_rows first_some
+unfolding body_rows said_row
 returns c =
-    let a = c.args in
-    c.lost_row.ensures
-    ∙ sym (rw (slots_fine (goal.at.returns c).In_default, mirrors_fine (goal.at.returns c).In_default-mirror_row, no_twin (goal.at.returns c).In_default-twin_row) (last_row [] (row_at 17 (first_of (is_lost a.book.now a.k a.v a.slots) (numbers 0 a.slots))) refl))
+    after _ _ _ c.in_ok-slot_rows.ensures
+    (after _ _ _ c.in_ok-mirror_row.ensures (after _ _ _ c.in_ok-twin_row.ensures (c.lost_row.ensures ∙ one_row _)))

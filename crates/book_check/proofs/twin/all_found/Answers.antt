@@ -1,26 +1,13 @@
-use mathlib.Core.Path.{sym, ◌∙◌}
-use native.Mathlib.Omega.{arith}
+-- Each slot is looked at.
+use Rattle.std.proofs.Common.{rules, true, false, refl, arith}
+use Rattle.std.proofs.lemmas.Iterator.{YieldsList-from_range, cases_from_all}
+use Rattle.memory_layout.specs.TableParts.{in_table}
 use Rattle.book_check.specs.Quick.{found_own}
-use Rattle.book_check.proofs.LoopLaws.{each_start, each_here, each_next, each_end}
+use Rattle.book_check.proofs.RangeLaws.{Says, each_by}
 use Rattle.book_check.proofs.twin.all_found.Goals as goal
-
-pub loop-i-init : goal.loop-i-init
-loop-i-init c = let a = c.args in each_start (found_own a.book.now a.k a.v a.slots) a.slots
-
-pub returns-then-not-found_own : goal.returns-then-not-found_own
-returns-then-not-found_own c =
-    let a = c.args in
-    let l = c.loop-i in
-    sym (l.invariant ∙ each_here (found_own a.book.now a.k a.v a.slots) a.slots l.i c.loop-i-test.true (sym c.found_own.ensures ∙ c.if-not-found_own.true))
-
-pub loop-i-preserved : goal.loop-i-preserved
-loop-i-preserved c =
-    let a = c.args in
-    let l = c.loop-i in
-    l.invariant ∙ each_next (found_own a.book.now a.k a.v a.slots) a.slots l.i c.loop-i-test.true (sym c.found_own.ensures ∙ c.if-not-found_own.false)
 
 pub returns : goal.returns
 returns c =
-    let a = c.args in
-    let l = c.loop-i in
-    sym (l.invariant ∙ each_end (found_own a.book.now a.k a.v a.slots) a.slots l.i (omega arith))
+    let t = c.args.table.now in
+    let n = t.slots.n in
+    each_by (in_table t found_own) n c.all.result (cases_from_all _ _ c.all.result (Says (in_table t found_own) n true) (Says (in_table t found_own) n false) c.all.ensures.ran (YieldsList-from_range 0 n n refl (omega arith)) (λ x q k. (search rules, λ l. search rules)) (λ x q k l. search rules))

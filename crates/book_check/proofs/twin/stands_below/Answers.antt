@@ -1,29 +1,13 @@
-use mathlib.Core.Path.{sym, ap, ◌∙◌}
-use mathlib.Core.Bool.{not}
-use native.Mathlib.Omega.{arith}
-use Rattle.rules.specs.First.{some_of}
-use Rattle.book_check.proofs.LoopLaws.{each_start, each_here, each_next, each_end}
-use Rattle.book_check.proofs.twin.stands_below.Invariants.{Other}
+-- Each slot below is looked at.
+use Rattle.std.proofs.Common.{rules, true, false, refl, arith}
+use Rattle.std.proofs.lemmas.Iterator.{YieldsList-from_range, cases_from_any}
+use Rattle.memory_layout.specs.TableParts.{in_table}
+use Rattle.book_check.specs.Quick.{stands_in}
+use Rattle.book_check.proofs.RangeLaws.{Says, some_by}
 use Rattle.book_check.proofs.twin.stands_below.Goals as goal
-
-pub loop-j-init : goal.loop-j-init
-unfolding some_of
-loop-j-init c = let a = c.args in ap not (each_start (Other a.book.now a.k a.v a.slots a.slot.0) a.slot.0)
-
-pub returns-then-has_key_of : goal.returns-then-has_key_of
-returns-then-has_key_of c =
-    let a = c.args in
-    let l = c.loop-j in
-    sym (l.invariant ∙ ap not (each_here (Other a.book.now a.k a.v a.slots a.slot.0) a.slot.0 l.j c.loop-j-test.true (ap not (sym c.has_key_of.ensures ∙ c.if-has_key_of.true))))
-
-pub loop-j-preserved : goal.loop-j-preserved
-loop-j-preserved c =
-    let a = c.args in
-    let l = c.loop-j in
-    l.invariant ∙ ap not (each_next (Other a.book.now a.k a.v a.slots a.slot.0) a.slot.0 l.j c.loop-j-test.true (ap not (sym c.has_key_of.ensures ∙ c.if-has_key_of.false)))
 
 pub returns : goal.returns
 returns c =
-    let a = c.args in
-    let l = c.loop-j in
-    sym (l.invariant ∙ ap not (each_end (Other a.book.now a.k a.v a.slots a.slot.0) a.slot.0 l.j (omega arith)))
+    let t = c.args.table.now in
+    let i = c.args.slot.0 in
+    some_by (in_table t stands_in i) i c.any.result (cases_from_any _ _ c.any.result (Says (in_table t stands_in i) i true) (Says (in_table t stands_in i) i false) c.any.ensures.ran (YieldsList-from_range 0 i i refl (omega arith)) (λ x q k l. search rules) (λ x q k. (search rules, λ l. search rules)))
