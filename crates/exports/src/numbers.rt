@@ -17,7 +17,14 @@ use raw_table::insert::Inserted;
 pub struct AnswerNumbers(pub [u64; 8]);
 
 // An answer that tells no part of the book.
-fn told(outcome: u64, row: usize, slot: usize, expected: u8, found: u8, count: usize) -> AnswerNumbers
+fn told(
+    outcome: u64,
+    row: usize,
+    slot: usize,
+    expected: u8,
+    found: u8,
+    count: usize,
+) -> AnswerNumbers
     ensures { result.0 ≡ told outcome row slot expected found count }
 {
     AnswerNumbers([

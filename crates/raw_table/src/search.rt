@@ -4,7 +4,7 @@ ghost use Rattle.rules.specs.Bytes.{same_bytes};
 ghost use Rattle.rules.specs.Hash.{tag_of, start_of};
 ghost use Rattle.rules.specs.Group.{reports};
 ghost use Rattle.rules.specs.Search.{group_at, search_from, spot_of};
-ghost use Rattle.memory_layout.specs.TableParts.{key_in};
+ghost use Rattle.memory_layout.specs.TableParts.{in_table, key_in};
 ghost use Rattle.group_query.specs.Marks.{word, empties};
 ghost use Rattle.raw_table.specs.Seq.{seq_at};
 ghost use Rattle.raw_table.specs.Said.{said_spot};
@@ -63,7 +63,7 @@ pub fn holds(table: &Table, slot: Slot, key: &[u8]) -> bool
 // The query over the group at a control position.
 fn query_at(table: &Table, p: Position, h2: u8) -> GroupQuery
     requires { p.0 < table.now.slots.n }
-    ensures { (result.eq ≡ word (reports h2 (group_at 8 table.now.bytes.now table.now.sizes.k table.now.sizes.v table.now.slots.n p.0))) × (result.empty ≡ word (empties (group_at 8 table.now.bytes.now table.now.sizes.k table.now.sizes.v table.now.slots.n p.0))) }
+    ensures { (result.eq ≡ word (reports h2 (in_table table.now (group_at 8) p.0))) × (result.empty ≡ word (empties (in_table table.now (group_at 8) p.0))) }
 {
     GroupQuery::from(
         table.bytes,
@@ -76,7 +76,7 @@ fn query_at(table: &Table, p: Position, h2: u8) -> GroupQuery
 #[inline(never)]
 fn search_from(table: Table, key: &[u8], h2: u8, from: ProbeSeq, before: usize) -> Spot
     requires { (h2 ≡ tag_of key.now) × (before ≤ table.slots.n / 8) × (from ≡ seq_at (start_of table.slots.n key.now) table.slots.n before) }
-    ensures { said_spot result ≡ search_from 8 reports table.entry.bytes.now table.entry.sizes.k table.entry.sizes.v table.entry.slots.n key.now (table.entry.slots.n / 8 - before) before }
+    ensures { said_spot result ≡ in_table table.entry (search_from 8 reports) key.now (table.entry.slots.n / 8 - before) before }
 {
     let slots = table.slots;
     let groups = slots.n / 8;
@@ -102,7 +102,7 @@ fn search_from(table: Table, key: &[u8], h2: u8, from: ProbeSeq, before: usize) 
 
 // Most searches end in the first group, at its first candidate or, where it has none, at an empty slot. That is told before any loop.
 pub fn search(table: &Table, key: &[u8]) -> Spot
-    ensures { said_spot result ≡ spot_of table.now.bytes.now table.now.sizes.k table.now.sizes.v table.now.slots.n key.now }
+    ensures { said_spot result ≡ in_table table.now spot_of key.now }
 {
     let slots = table.slots;
     let hash = fxhash::hash(key);
