@@ -1,1 +1,3 @@
-pub mod Out
+pub mod Answer
+pub mod Buffered
+pub mod Hex

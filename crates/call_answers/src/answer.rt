@@ -1,4 +1,7 @@
 // The answers of the library's calls, in the list's words.
+ghost use Rattle.std.specs.Prelude.{◌≡◌, Some};
+ghost use Rattle.call_answers.specs.Answer.{answer_of_made, answer_of_opened, answer_of_verdict, answer_of_found, answer_of_inserted, answer_of_next, answer_text};
+
 use book_check::Verdict;
 use memory_layout::init::Made;
 use memory_layout::kinds::Slot;
@@ -23,6 +26,8 @@ pub enum Answer {
 }
 
 impl From<Made> for Answer {
+    ghost from_gives = { λ made answer. answer ≡ answer_of_made made };
+
     fn from(made: Made) -> Answer {
         match made {
             Made::Fine => Answer::Fine,
@@ -32,6 +37,8 @@ impl From<Made> for Answer {
 }
 
 impl From<Opened> for Answer {
+    ghost from_gives = { λ opened answer. answer ≡ answer_of_opened opened };
+
     fn from(opened: Opened) -> Answer {
         match opened {
             Opened::Fine => Answer::Fine,
@@ -41,6 +48,8 @@ impl From<Opened> for Answer {
 }
 
 impl From<Verdict> for Answer {
+    ghost from_gives = { λ verdict answer. answer ≡ answer_of_verdict verdict };
+
     fn from(verdict: Verdict) -> Answer {
         match verdict {
             Verdict::Fine => Answer::Fine,
@@ -50,6 +59,8 @@ impl From<Verdict> for Answer {
 }
 
 impl From<Found> for Answer {
+    ghost from_gives = { λ found answer. answer ≡ answer_of_found found };
+
     fn from(found: Found) -> Answer {
         match found {
             Found::At(slot, count) => Answer::At(slot, count),
@@ -60,6 +71,8 @@ impl From<Found> for Answer {
 }
 
 impl From<Inserted> for Answer {
+    ghost from_gives = { λ inserted answer. answer ≡ answer_of_inserted inserted };
+
     fn from(inserted: Inserted) -> Answer {
         match inserted {
             Inserted::New(slot, count) => Answer::New(slot, count),
@@ -70,6 +83,8 @@ impl From<Inserted> for Answer {
 }
 
 impl From<Next> for Answer {
+    ghost from_gives = { λ next answer. answer ≡ answer_of_next next };
+
     fn from(next: Next) -> Answer {
         match next {
             Next::At(slot, control) => Answer::Occupied(slot, control),
@@ -80,6 +95,8 @@ impl From<Next> for Answer {
 }
 
 impl fmt::Display for Answer {
+    ghost output = { λ answer. Some (answer_text answer) };
+
     fn fmt<W: fmt::Write>(&self, f: &mut fmt::Formatter<W>) -> fmt::Result {
         match *self {
             Answer::Fine => write!(f, "ok"),

@@ -2,6 +2,6 @@
 #![tactic(auto)]
 
 pub mod answer;
+pub mod buffered;
 pub mod hex;
-pub mod out;
 pub mod walk;

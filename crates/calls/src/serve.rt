@@ -1,5 +1,5 @@
 // The whole list: reads, puts lines together and answers each.
-use call_answers::out::Out;
+use call_answers::buffered::Buffered;
 use call_lines::line::Line;
 use kept_book::book::Book;
 use std::fmt::Write;
@@ -14,7 +14,7 @@ const LINE_LIMIT: usize = 131_072;
 struct Calls<W> {
     line: Line<LINE_LIMIT>,
     book: Book,
-    out: Out<W>,
+    out: Buffered<W>,
 }
 
 impl<W: io::Write> Calls<W> {
@@ -22,7 +22,7 @@ impl<W: io::Write> Calls<W> {
         Calls {
             line: Line::new(),
             book: Book::new(),
-            out: Out::new(writer),
+            out: Buffered::new(writer),
         }
     }
 

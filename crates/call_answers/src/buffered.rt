@@ -1,23 +1,23 @@
 // What is written. It is held in a buffer, which goes to the writer when it is full and by `flush`.
 ghost use Rattle.std.specs.Prelude.{◌≡◌, [], ◌∷◌, OnOk};
 ghost use Rattle.std.specs.Io.KnownBytes.{Appends, Keeps};
-ghost use Rattle.call_answers.specs.Out.{held_bytes, bytes_of};
+ghost use Rattle.call_answers.specs.Buffered.{held_bytes, bytes_of};
 
 use arrayvec::ArrayVec;
 use std::{fmt, io};
 
 /// A writer behind a buffer. After an error nothing more is to be written.
 #[derive(Drop)]
-pub struct Out<W> {
+pub struct Buffered<W> {
     writer: W,
     held: ArrayVec<u8, 65536>,
 }
 
-impl<W: io::Write> Out<W> {
-    pub fn new(writer: W) -> Out<W>
+impl<W: io::Write> Buffered<W> {
+    pub fn new(writer: W) -> Buffered<W>
         ensures { Keeps (W.contents writer) (bytes_of W.contents result) }
     {
-        Out {
+        Buffered {
             writer,
             held: ArrayVec::new(),
         }
@@ -46,7 +46,7 @@ impl<W: io::Write> Out<W> {
     }
 }
 
-impl<W: io::Write> fmt::Write for Out<W> {
+impl<W: io::Write> fmt::Write for Buffered<W> {
     ghost write_str_gives = { λ old text new. Appends (bytes_of W.contents old) (bytes_of W.contents new) text };
 
     fn write_str(&mut self, text: &str) -> fmt::Result {
