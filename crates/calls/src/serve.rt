@@ -1,13 +1,10 @@
 // The whole list: reads, puts lines together and answers each.
 use call_answers::buffered::Buffered;
 use call_lines::line::Line;
-use kept_book::book::Book;
+use kept_book::book::{Book, LINE_LIMIT};
 use std::fmt::Write;
 use std::io::Read;
 use std::{fmt, io};
-
-// How many bytes a line may have.
-const LINE_LIMIT: usize = 131_072;
 
 // The line that is being read, the book, and what is to be written.
 #[derive(Drop)]

@@ -14,20 +14,20 @@ use raw_slots::iter::next_occupied;
 use raw_slots::open::open;
 use raw_table::find::{find, value};
 use raw_table::insert::insert;
+use std::fmt;
 use std::fmt::Write;
 use std::marker::Model;
-use std::{fmt, io};
 
 /// How many bytes a book may have.
-pub const LIMIT: usize = 524_288;
+pub const BOOK_LIMIT: usize = 524_288;
 
-/// How many bytes the third buffer of an insert may have.
-pub const OLD_LIMIT: usize = 131_072;
+/// How many bytes a line may have, and so the third buffer of an insert.
+pub const LINE_LIMIT: usize = 131_072;
 
 /// The book that a list keeps.
 #[derive(Drop)]
 pub struct Book {
-    bytes: ArrayVec<u8, LIMIT>,
+    bytes: ArrayVec<u8, BOOK_LIMIT>,
 }
 
 impl Model for Book {
@@ -50,7 +50,7 @@ impl Book {
 
     // The book is these bytes. This and the next three return its length then, or leave it as it is.
     fn set(&mut self, bytes: &[u8]) -> Option<usize>
-        ensures fits { IsSome result ↔ (length bytes.now ≤ LIMIT) }
+        ensures fits { IsSome result ↔ (length bytes.now ≤ BOOK_LIMIT) }
         ensures set { OnSome result (self.new ≡ bytes.now) }
         ensures len { IfSome result (λ len. len ≡ length self.new) }
         ensures refused { IfNone result (self.new ≡ self.old) }
@@ -64,7 +64,7 @@ impl Book {
 
     // These bytes behind those that it has.
     fn extend(&mut self, bytes: &[u8]) -> Option<usize>
-        ensures fits { IsSome result ↔ (length self.old + length bytes.now ≤ LIMIT) }
+        ensures fits { IsSome result ↔ (length self.old + length bytes.now ≤ BOOK_LIMIT) }
         ensures extended { OnSome result (self.new ≡ self.old ++ bytes.now) }
         ensures len { IfSome result (λ len. len ≡ length self.new) }
         ensures refused { IfNone result (self.new ≡ self.old) }
@@ -74,7 +74,7 @@ impl Book {
     }
 
     fn fill(&mut self, len: usize, byte: u8) -> Option<usize>
-        ensures fits { IsSome result ↔ (len ≤ LIMIT) }
+        ensures fits { IsSome result ↔ (len ≤ BOOK_LIMIT) }
         ensures filled { OnSome result (self.new ≡ replicate len byte) }
         ensures len { IfSome result (λ len. len ≡ length self.new) }
         ensures refused { IfNone result (self.new ≡ self.old) }
@@ -115,7 +115,7 @@ impl Book {
 
     /// The answer to a line, which is read in its own place. The line's end is not written.
     pub fn answer(&mut self, line: &mut [u8], out: &mut impl Write) -> fmt::Result
-        requires { length line.old ≤ OLD_LIMIT }
+        requires { length line.old ≤ LINE_LIMIT }
     {
         match read_call(line) {
             Some(call) => self.run(call, out),
@@ -124,7 +124,7 @@ impl Book {
     }
 
     fn run(&mut self, call: Call<'_>, out: &mut impl Write) -> fmt::Result
-        requires { HasOldWithin OLD_LIMIT call }
+        requires { HasOldWithin LINE_LIMIT call }
     {
         let book = self.bytes.as_slice();
         match call {
@@ -174,9 +174,9 @@ impl Book {
         old: &[u8],
         out: &mut impl Write,
     ) -> fmt::Result
-        requires { length old.now ≤ OLD_LIMIT }
+        requires { length old.now ≤ LINE_LIMIT }
     {
-        let mut copy = [0u8; OLD_LIMIT];
+        let mut copy = [0u8; LINE_LIMIT];
         let copy = &mut copy[..old.len()];
         copy.copy_from_slice(old);
         let inserted = insert(self.bytes.as_mut_slice(), k, v, key, value, copy);
