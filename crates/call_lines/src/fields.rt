@@ -1,5 +1,7 @@
 // The fields of a line. Each value has one spelling: a number no leading zero, bytes lower-case hex, or a dash for none.
-ghost use Rattle.std.specs.Prelude.{◌≡◌, ◌≢◌, ℕ, ◌≤◌, ◌<◌, length, slice_index, IfSome};
+ghost use Rattle.std.specs.Prelude.{◌≡◌, ◌≢◌, ℕ, ◌+◌, ◌-◌, ◌*◌, ◌≤◌, ◌<◌, ◌↔◌, ◌⊎◌, length, slice_index, IsTrue, IfSome};
+ghost use Rattle.std.specs.Fmt.{decimal};
+ghost use Rattle.std.specs.Str.Parse.{AllDigits, digits_value};
 
 /// What is left of a line, field by field. Byte strings are read in their own place.
 #[derive(Drop)]
@@ -74,18 +76,40 @@ fn field_end(line: &[u8]) -> usize
 }
 
 // A number with one digit more.
-fn with_digit(n: u64, byte: u8) -> Option<u64> {
+fn with_digit(n: u64, byte: u8) -> Option<u64>
+    ensures { IfSome result (λ more. (48 ≤ byte) × (byte ≤ 57) × (more ≡ n * 10 + (byte - 48))) }
+{
     if !byte.is_ascii_digit() {
         return None;
     }
     n.checked_mul(10)?.checked_add(u64::from(byte - b'0'))
 }
 
-fn number_of(field: &[u8]) -> Option<u64> {
-    match field {
-        [] | [b'0', _, ..] => None,
-        digits => digits.iter().try_fold(0, |n, &byte| with_digit(n, byte)),
+fn value_of(digits: &[u8]) -> Option<u64>
+    ensures { IfSome result (λ n. AllDigits 10 digits.now × (n ≡ digits_value 10 digits.now)) }
+{
+    let mut n = 0;
+    for &digit in digits {
+        n = with_digit(n, digit)?;
     }
+    Some(n)
+}
+
+// Whether a field is empty, or starts with a zero that is not all of it.
+fn starts_badly(field: &[u8]) -> bool
+    ensures { IsTrue result ↔ ((length field.now ≡ 0) ⊎ ((slice_index field.now 0 ≡ 48) × (1 < length field.now))) }
+{
+    matches!(field, [] | [b'0', _, ..])
+}
+
+// The number that a field writes in its one spelling.
+fn number_of(field: &[u8]) -> Option<u64>
+    ensures { IfSome result (λ n. field.now ≡ decimal n) }
+{
+    if starts_badly(field) {
+        return None;
+    }
+    value_of(field)
 }
 
 // What a hex digit is worth.
