@@ -1,6 +1,6 @@
 // Bytes as a list of calls writes them.
 ghost use Rattle.std.specs.Prelude.{Some};
-ghost use Rattle.call_answers.specs.Hex.{hex_text};
+ghost use Rattle.call_lines.specs.Hex.{hex_text};
 
 use std::fmt;
 

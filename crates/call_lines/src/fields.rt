@@ -1,7 +1,10 @@
 // The fields of a line. Each value has one spelling: a number no leading zero, bytes lower-case hex, or a dash for none.
-ghost use Rattle.std.specs.Prelude.{◌≡◌, ◌≢◌, ℕ, ◌+◌, ◌-◌, ◌*◌, ◌≤◌, ◌<◌, ◌↔◌, ◌⊎◌, length, slice_index, IsTrue, IfSome};
-ghost use Rattle.std.specs.Fmt.{decimal};
+ghost use Rattle.std.specs.Prelude.{◌≡◌, ◌≢◌, ℕ, [], ◌∷◌, ◌++◌, ◌+◌, ◌-◌, ◌*◌, ◌≤◌, ◌<◌, ◌↔◌, ◌⊎◌, length, slice_index, IsTrue, IfSome, false};
+ghost use Rattle.std.specs.Fmt.{decimal, digit_glyph};
 ghost use Rattle.std.specs.Str.Parse.{AllDigits, digits_value};
+ghost use Rattle.call_lines.specs.Hex.{hex_of_byte, hex_text};
+
+use std::mem;
 
 /// What is left of a line, field by field. Byte strings are read in their own place.
 #[derive(Drop)]
@@ -11,53 +14,58 @@ pub(crate) struct Fields<'l> {
 
 impl<'l> Fields<'l> {
     pub(crate) fn new(line: &'l mut [u8]) -> Fields<'l>
-        ensures { length result.rest.now ≡ length line.old }
+        ensures { result.rest.now ≡ line.old }
     {
         Fields { rest: line }
     }
 
     /// Whether the line ends here.
-    pub(crate) fn is_empty(&self) -> bool {
+    pub(crate) fn is_empty(&self) -> bool
+        ensures { IsTrue result ↔ (self.now.rest.now ≡ []) }
+    {
         self.rest.is_empty()
     }
 
     // What stands before the next space, or before the line's end.
-    fn part(&mut self) -> Option<&'l mut [u8]>
-        ensures part { IfSome result (λ part. length part.now ≤ length self.old.rest.now) }
-        ensures rest { length self.new.rest.now ≤ length self.old.rest.now }
+    fn part(&mut self) -> &'l mut [u8]
+        ensures { self.old.rest.now ≡ result.now ++ self.new.rest.now }
     {
-        let end = field_end(self.rest);
-        self.rest.split_off_mut(..end)
+        let line = mem::take(&mut self.rest);
+        let end = field_end(line);
+        let (part, rest) = line.split_at_mut(end);
+        self.rest = rest;
+        part
     }
 
     // The field behind the next space.
     fn field(&mut self) -> Option<&'l mut [u8]>
-        ensures field { IfSome result (λ field. length field.now ≤ length self.old.rest.now) }
+        ensures field { IfSome result (λ field. self.old.rest.now ≡ 32 ∷ (field.now ++ self.new.rest.now)) }
         ensures rest { length self.new.rest.now ≤ length self.old.rest.now }
     {
         if *self.rest.split_off_first_mut()? != b' ' {
             return None;
         }
-        self.part()
+        Some(self.part())
     }
 
     /// The word that a line starts with.
-    pub(crate) fn word(&mut self) -> Option<&'l [u8]>
-        ensures { length self.new.rest.now ≤ length self.old.rest.now }
+    pub(crate) fn word(&mut self) -> &'l [u8]
+        ensures { self.old.rest.now ≡ result.now ++ self.new.rest.now }
     {
-        let word = self.part()?;
-        Some(word)
+        self.part()
     }
 
     pub(crate) fn number(&mut self) -> Option<u64>
-        ensures { length self.new.rest.now ≤ length self.old.rest.now }
+        ensures number { IfSome result (λ n. self.old.rest.now ≡ 32 ∷ (decimal n ++ self.new.rest.now)) }
+        ensures rest { length self.new.rest.now ≤ length self.old.rest.now }
     {
         number_of(self.field()?)
     }
 
     /// The bytes of the next field.
     pub(crate) fn bytes(&mut self) -> Option<&'l [u8]>
-        ensures bytes { IfSome result (λ bytes. length bytes.now ≤ length self.old.rest.now) }
+        ensures bytes { IfSome result (λ bytes. self.old.rest.now ≡ 32 ∷ (hex_text bytes.now ++ self.new.rest.now)) }
+        ensures fits { IfSome result (λ bytes. length bytes.now ≤ length self.old.rest.now) }
         ensures rest { length self.new.rest.now ≤ length self.old.rest.now }
     {
         unhex(self.field()?)
@@ -114,7 +122,7 @@ fn number_of(field: &[u8]) -> Option<u64>
 
 // What a hex digit is worth.
 fn nibble(byte: u8) -> Option<u8>
-    ensures { IfSome result (λ n. n < 16) }
+    ensures { IfSome result (λ n. (n < 16) × (digit_glyph false n ≡ byte)) }
 {
     match byte {
         b'0'..=b'9' => Some(byte - b'0'),
@@ -124,13 +132,16 @@ fn nibble(byte: u8) -> Option<u8>
 }
 
 // What two hex digits are worth.
-fn pair(high: u8, low: u8) -> Option<u8> {
+fn pair(high: u8, low: u8) -> Option<u8>
+    ensures { IfSome result (λ byte. hex_of_byte byte ≡ high ∷ low ∷ []) }
+{
     Some(nibble(high)? * 16 + nibble(low)?)
 }
 
 // The bytes that a field stands for, put over its start.
 fn unhex(field: &mut [u8]) -> Option<&[u8]>
-    ensures { IfSome result (λ bytes. length bytes.now ≤ length field.old) }
+    ensures bytes { IfSome result (λ bytes. field.old ≡ hex_text bytes.now) }
+    ensures fits { IfSome result (λ bytes. length bytes.now ≤ length field.old) }
 {
     if let [b'-'] = field {
         return Some(&[]);

@@ -5,7 +5,7 @@ use Rattle.std.proofs.lemmas.Fmt.{hex_byte}
 use Rattle.std.proofs.lemmas.List.{take_more, flat_map_more}
 use Rattle.std.specs.Fmt.{digits, padded_integral, format_spec}
 use Rattle.std.specs.List.{flat_map}
-use Rattle.call_answers.specs.Hex.{hex_of_byte}
+use Rattle.call_lines.specs.Hex.{hex_of_byte}
 use Rattle.call_answers.proofs.hex.HexDisplay.fmt.Goals as goal
 
 hex_of_more : (xs : List ℕ) (i : ℕ) → i < length xs → get_or xs i 0 < 256

@@ -2,7 +2,7 @@
 use Rattle.std.proofs.Common.{take}
 use Rattle.std.specs.Fmt.{HasWritten, IsPlainFormatter}
 use Rattle.std.specs.List.{flat_map}
-use Rattle.call_answers.specs.Hex.{hex_of_byte}
+use Rattle.call_lines.specs.Hex.{hex_of_byte}
 use Rattle.call_answers.proofs.hex.HexDisplay.fmt.Given as goal
 
 abbrev pub invariant-loop-byte : goal.invariant-loop-byte
