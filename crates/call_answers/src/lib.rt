@@ -1,5 +1,7 @@
-// What a list of calls answers: the words, and the answers of the library's calls in them.
+// What a list of calls answers: the words, and the buffer in which they are held until they are written.
 #![tactic(auto)]
 
-pub mod say;
-pub mod table;
+pub mod answer;
+pub mod buffered;
+pub mod hex;
+pub mod walk;

@@ -1,189 +1,147 @@
 // Which call a line is: a word, then its numbers, then its byte strings.
-ghost use Rattle.std.specs.Prelude.{◌≤◌, ◌<◌};
+ghost use Rattle.std.specs.Prelude.{◌≡◌, ◌≤◌, [], ◌++◌, length, IfSome};
+ghost use Rattle.call_lines.specs.Call.{HasOldWithin, line_of};
 
-use crate::fields::{Number, field_at, number_of, space_from, unhex};
-use raw_table::search::equals;
+use crate::fields::Fields;
 
+/// A call, with what its line has behind the word.
 #[derive(Clone, Copy)]
-pub enum Call {
-    Book,
-    More,
-    Fill,
-    Poke,
-    Init,
-    Open,
-    Check,
-    Find,
-    Value,
-    Insert,
-    Next,
-    Walk,
-    Hash,
+pub enum Call<'l> {
+    Book(&'l [u8]),
+    More(&'l [u8]),
+    Fill {
+        len: usize,
+        byte: u8,
+    },
+    Poke {
+        at: usize,
+        bytes: &'l [u8],
+    },
+    Init {
+        k: usize,
+        v: usize,
+        slots: usize,
+        items: u64,
+        load: u16,
+    },
+    Open {
+        k: usize,
+        v: usize,
+    },
+    Check {
+        k: usize,
+        v: usize,
+    },
+    Find {
+        k: usize,
+        v: usize,
+        key: &'l [u8],
+    },
+    Value {
+        k: usize,
+        v: usize,
+        key: &'l [u8],
+    },
+    Insert {
+        k: usize,
+        v: usize,
+        key: &'l [u8],
+        value: &'l [u8],
+        old: &'l [u8],
+    },
+    Next {
+        k: usize,
+        v: usize,
+        from: usize,
+    },
+    Walk {
+        k: usize,
+        v: usize,
+        steps: usize,
+    },
+    Hash(&'l [u8]),
     Bytes,
     Sum,
-    // Any other line.
-    Bad,
 }
 
-// How many numbers a call has, and how many byte strings.
-#[derive(Clone, Copy)]
-struct Shape(usize, usize);
-
-// Where reading goes on.
-#[derive(Clone, Copy)]
-enum Place {
-    At(usize),
-    Bad,
-}
-
-// The words of the calls on bytes as such.
-fn word_of_bytes(word: &[u8]) -> Call {
-    if equals(word, b"book") {
-        return Call::Book;
-    }
-    if equals(word, b"more") {
-        return Call::More;
-    }
-    if equals(word, b"fill") {
-        return Call::Fill;
-    }
-    if equals(word, b"poke") {
-        return Call::Poke;
-    }
-    if equals(word, b"hash") {
-        return Call::Hash;
-    }
-    if equals(word, b"bytes") {
-        return Call::Bytes;
-    }
-    if equals(word, b"sum") {
-        return Call::Sum;
-    }
-    Call::Bad
-}
-
-// The words of the calls on a table, and then the others.
-fn word_of_table(word: &[u8]) -> Call {
-    if equals(word, b"init") {
-        return Call::Init;
-    }
-    if equals(word, b"open") {
-        return Call::Open;
-    }
-    if equals(word, b"check") {
-        return Call::Check;
-    }
-    if equals(word, b"find") {
-        return Call::Find;
-    }
-    if equals(word, b"value") {
-        return Call::Value;
-    }
-    if equals(word, b"insert") {
-        return Call::Insert;
-    }
-    if equals(word, b"next") {
-        return Call::Next;
-    }
-    if equals(word, b"walk") {
-        return Call::Walk;
-    }
-    word_of_bytes(word)
-}
-
-fn shape_of(call: Call) -> Shape
-    ensures { (result.0 ≤ 5) × (result.1 ≤ 3) }
+// The calls on a table: each begins with the sizes of a key and a value.
+fn table_call<'l>(word: &[u8], fields: &mut Fields<'l>) -> Option<Call<'l>>
+    ensures old { IfSome result (HasOldWithin (length fields.old.rest.now)) }
+    ensures line { IfSome result (λ call. word.now ++ fields.old.rest.now ≡ line_of call fields.new.rest.now) }
 {
-    match call {
-        Call::Book | Call::More | Call::Hash => Shape(0, 1),
-        Call::Fill | Call::Open | Call::Check => Shape(2, 0),
-        Call::Poke => Shape(1, 1),
-        Call::Init => Shape(5, 0),
-        Call::Find | Call::Value => Shape(2, 1),
-        Call::Insert => Shape(2, 3),
-        Call::Next | Call::Walk => Shape(3, 0),
-        Call::Bytes | Call::Sum | Call::Bad => Shape(0, 0),
+    let k = fields.number()? as usize;
+    let v = fields.number()? as usize;
+    match word {
+        b"init" => Some(Call::Init {
+            k,
+            v,
+            slots: fields.number()? as usize,
+            items: fields.number()?,
+            load: u16::try_from(fields.number()?).ok()?,
+        }),
+        b"open" => Some(Call::Open { k, v }),
+        b"check" => Some(Call::Check { k, v }),
+        b"find" => Some(Call::Find {
+            k,
+            v,
+            key: fields.bytes()?,
+        }),
+        b"value" => Some(Call::Value {
+            k,
+            v,
+            key: fields.bytes()?,
+        }),
+        b"insert" => Some(Call::Insert {
+            k,
+            v,
+            key: fields.bytes()?,
+            value: fields.bytes()?,
+            old: fields.bytes()?,
+        }),
+        b"next" => Some(Call::Next {
+            k,
+            v,
+            from: fields.number()? as usize,
+        }),
+        b"walk" => Some(Call::Walk {
+            k,
+            v,
+            steps: fields.number()? as usize,
+        }),
+        _ => None,
     }
 }
 
-// The number behind the space at a place becomes number i.
-fn read_number(line: &[u8], at: usize, i: usize, numbers: &mut [u64; 5]) -> Place
-    requires { i < 5 }
+// The calls on bytes as such, and then the others.
+fn call_of<'l>(word: &[u8], fields: &mut Fields<'l>) -> Option<Call<'l>>
+    ensures old { IfSome result (HasOldWithin (length fields.old.rest.now)) }
+    ensures line { IfSome result (λ call. word.now ++ fields.old.rest.now ≡ line_of call fields.new.rest.now) }
 {
-    let field = field_at(line, at);
-    if !field.is_there {
-        return Place::Bad;
-    }
-    let start = field.start;
-    let end = field.end;
-    match number_of(&line[start..end]) {
-        Number::Is(n) => {
-            numbers[i] = n;
-            Place::At(end)
-        }
-        Number::Bad => Place::Bad,
+    match word {
+        b"book" => Some(Call::Book(fields.bytes()?)),
+        b"more" => Some(Call::More(fields.bytes()?)),
+        b"fill" => Some(Call::Fill {
+            len: fields.number()? as usize,
+            byte: u8::try_from(fields.number()?).ok()?,
+        }),
+        b"poke" => Some(Call::Poke {
+            at: fields.number()? as usize,
+            bytes: fields.bytes()?,
+        }),
+        b"hash" => Some(Call::Hash(fields.bytes()?)),
+        b"bytes" => Some(Call::Bytes),
+        b"sum" => Some(Call::Sum),
+        _ => table_call(word, fields),
     }
 }
 
-fn read_numbers(line: &[u8], at: usize, count: usize, numbers: &mut [u64; 5]) -> Place
-    requires { count ≤ 5 }
+/// The call that a line is, if it is one. Its byte strings lie in the line.
+pub fn read_call(line: &mut [u8]) -> Option<Call<'_>>
+    ensures old { IfSome result (HasOldWithin (length line.old)) }
+    ensures line { IfSome result (λ call. line.old ≡ line_of call []) }
 {
-    let mut place = at;
-    let mut i = 0;
-    while i < count {
-        match read_number(line, place, i, numbers) {
-            Place::At(next) => place = next,
-            Place::Bad => return Place::Bad,
-        }
-        i += 1;
-    }
-    Place::At(place)
-}
-
-// The bytes behind the space at a place are put over their own field, and where they start and end becomes part i.
-fn read_part(line: &mut [u8], at: usize, i: usize, parts: &mut [usize; 6]) -> Place
-    requires { i < 3 }
-{
-    let field = field_at(line, at);
-    if !field.is_there {
-        return Place::Bad;
-    }
-    let start = field.start;
-    let end = field.end;
-    let decoded = unhex(&mut line[start..end]);
-    if !decoded.is_bytes {
-        return Place::Bad;
-    }
-    parts[2 * i] = start;
-    parts[2 * i + 1] = start + decoded.len;
-    Place::At(end)
-}
-
-fn read_parts(line: &mut [u8], at: usize, count: usize, parts: &mut [usize; 6]) -> Place
-    requires { count ≤ 3 }
-{
-    let mut place = at;
-    let mut i = 0;
-    while i < count {
-        match read_part(line, place, i, parts) {
-            Place::At(next) => place = next,
-            Place::Bad => return Place::Bad,
-        }
-        i += 1;
-    }
-    Place::At(place)
-}
-
-// The call that a line is, with its numbers, and its byte strings in the line.
-pub fn read_call(line: &mut [u8], numbers: &mut [u64; 5], parts: &mut [usize; 6]) -> Call {
-    let end = space_from(line, 0);
-    let call = word_of_table(&line[0..end]);
-    let shape = shape_of(call);
-    let Place::At(behind) = read_numbers(line, end, shape.0, numbers) else {
-        return Call::Bad;
-    };
-    let Place::At(last) = read_parts(line, behind, shape.1, parts) else {
-        return Call::Bad;
-    };
-    if last == line.len() { call } else { Call::Bad }
+    let mut fields = Fields::new(line);
+    let word = fields.word();
+    let call = call_of(word, &mut fields)?;
+    fields.is_empty().then_some(call)
 }

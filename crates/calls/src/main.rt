@@ -4,9 +4,6 @@
 mod serve;
 
 fn main(rt: HostRuntime) {
-    let mut input = [0u8; 65536];
-    let mut line = [0u8; 131072];
-    let mut book = [0u8; 524288];
-    let mut out = [0u8; 65536];
-    serve::serve(&rt, &mut input, &mut line, &mut book, &mut out);
+    // A write that fails ends the list, and the program with it: there is nobody left to tell.
+    let _ = serve::serve(&rt);
 }

@@ -1,91 +1,198 @@
-// The book that is kept between the lines: so many bytes at the start of a buffer.
-ghost use Rattle.std.specs.Prelude.{◌≡◌, ◌≤◌, length};
+// The book that is kept between the lines, and one line: the call that it is, made on that book.
+ghost use Rattle.std.specs.Prelude.{◌≡◌, ◌+◌, ◌≤◌, ◌↔◌, [], ◌++◌, length, replicate, IsSome, IfSome, OnSome, IfNone};
+ghost use Rattle.std.proofs.lemmas.List.Edits.{sets};
+ghost use Rattle.call_lines.specs.Call.{HasOldWithin};
 
-use call_answers::say;
-use memory_layout::parts::fill;
-use raw_table::insert::overwrite;
+use arrayvec::ArrayVec;
+use book_check::check_book;
+use call_answers::answer::Answer;
+use call_answers::hex::Hex;
+use call_answers::walk::Walk;
+use call_lines::call::{Call, read_call};
+use memory_layout::init::init_in_place;
+use raw_slots::iter::next_occupied;
+use raw_slots::open::open;
+use raw_table::find::{find, value};
+use raw_table::insert::insert;
+use std::fmt;
+use std::fmt::Write;
+use std::marker::Model;
 
-// The book's length afterwards, and whether the call was one that can be made.
-#[derive(Clone, Copy)]
-pub(crate) struct Changed {
-    pub len: usize,
-    pub is_done: bool,
+/// How many bytes a book may have.
+pub const BOOK_LIMIT: usize = 524_288;
+
+/// How many bytes a line may have, and so the third buffer of an insert.
+pub const LINE_LIMIT: usize = 131_072;
+
+/// The book that a list keeps.
+#[derive(Drop)]
+pub struct Book {
+    bytes: ArrayVec<u8, BOOK_LIMIT>,
 }
 
-// What a call that can't be made leaves.
-pub(crate) fn unchanged(len: usize) -> Changed
-    ensures { result.len ≡ len }
-{
-    Changed {
-        len,
-        is_done: false,
+impl Model for Book {
+    ghost use Rattle.std.specs.Prelude.{ℕ, List};
+
+    ghost Value = { List ℕ };
+
+    ghost view = { λ book. book.bytes.items };
+}
+
+impl Book {
+    /// No byte.
+    pub fn new() -> Book
+        ensures { result ≡ [] }
+    {
+        Book {
+            bytes: ArrayVec::new(),
+        }
+    }
+
+    // The book is these bytes. This and the next three return its length then, or leave it as it is.
+    fn set(&mut self, bytes: &[u8]) -> Option<usize>
+        ensures fits { IsSome result ↔ (length bytes.now ≤ BOOK_LIMIT) }
+        ensures set { OnSome result (self.new ≡ bytes.now) }
+        ensures len { IfSome result (λ len. len ≡ length self.new) }
+        ensures refused { IfNone result (self.new ≡ self.old) }
+    {
+        if self.bytes.capacity() < bytes.len() {
+            return None;
+        }
+        self.bytes.clear();
+        self.extend(bytes)
+    }
+
+    // These bytes behind those that it has.
+    fn extend(&mut self, bytes: &[u8]) -> Option<usize>
+        ensures fits { IsSome result ↔ (length self.old + length bytes.now ≤ BOOK_LIMIT) }
+        ensures extended { OnSome result (self.new ≡ self.old ++ bytes.now) }
+        ensures len { IfSome result (λ len. len ≡ length self.new) }
+        ensures refused { IfNone result (self.new ≡ self.old) }
+    {
+        self.bytes.try_extend_from_slice(bytes).ok()?;
+        Some(self.bytes.len())
+    }
+
+    fn fill(&mut self, len: usize, byte: u8) -> Option<usize>
+        ensures fits { IsSome result ↔ (len ≤ BOOK_LIMIT) }
+        ensures filled { OnSome result (self.new ≡ replicate len byte) }
+        ensures len { IfSome result (λ len. len ≡ length self.new) }
+        ensures refused { IfNone result (self.new ≡ self.old) }
+    {
+        if self.bytes.capacity() < len {
+            return None;
+        }
+        self.bytes.clear();
+        for _ in 0..len {
+            self.bytes.push(byte);
+        }
+        Some(len)
+    }
+
+    // Overwrites within the book.
+    fn poke(&mut self, at: usize, bytes: &[u8]) -> Option<usize>
+        ensures fits { IsSome result ↔ (at + length bytes.now ≤ length self.old) }
+        ensures poked { OnSome result (self.new ≡ sets self.old at bytes.now) }
+        ensures len { IfSome result (λ len. len ≡ length self.new) }
+        ensures refused { IfNone result (self.new ≡ self.old) }
+    {
+        let len = self.bytes.len();
+        if len < at || len - at < bytes.len() {
+            return None;
+        }
+        self.bytes.as_mut_slice()[at..at + bytes.len()].copy_from_slice(bytes);
+        Some(len)
+    }
+
+    // FNV-1a, 64 bits.
+    fn sum(&self) -> u64 {
+        let step = |sum: u64, &byte| (sum ^ u64::from(byte)).wrapping_mul(0x100_0000_01b3);
+        self.bytes
+            .as_slice()
+            .iter()
+            .fold(0xcbf2_9ce4_8422_2325, step)
+    }
+
+    /// The answer to a line, which is read in its own place. The line's end is not written.
+    pub fn answer(&mut self, line: &mut [u8], out: &mut impl Write) -> fmt::Result
+        requires { length line.old ≤ LINE_LIMIT }
+    {
+        match read_call(line) {
+            Some(call) => self.run(call, out),
+            None => out.write_str("bad"),
+        }
+    }
+
+    fn run(&mut self, call: Call<'_>, out: &mut impl Write) -> fmt::Result
+        requires { HasOldWithin LINE_LIMIT call }
+    {
+        let book = self.bytes.as_slice();
+        match call {
+            Call::Book(bytes) => write_changed(self.set(bytes), out),
+            Call::More(bytes) => write_changed(self.extend(bytes), out),
+            Call::Fill { len, byte } => write_changed(self.fill(len, byte), out),
+            Call::Poke { at, bytes } => write_changed(self.poke(at, bytes), out),
+            Call::Init {
+                k,
+                v,
+                slots,
+                items,
+                load,
+            } => {
+                let made = init_in_place(self.bytes.as_mut_slice(), k, v, slots, items, load);
+                write_answer(made.into(), out)
+            }
+            Call::Open { k, v } => write_answer(open(book, k, v).into(), out),
+            Call::Check { k, v } => write_answer(check_book(book, k, v).into(), out),
+            Call::Find { k, v, key } => write_answer(find(book, k, v, key).into(), out),
+            Call::Value { k, v, key } => write!(out, "part {}", Hex(value(book, k, v, key))),
+            Call::Insert {
+                k,
+                v,
+                key,
+                value,
+                old,
+            } => self.insert(k, v, key, value, old, out),
+            Call::Next { k, v, from } => write_answer(next_occupied(book, k, v, from).into(), out),
+            Call::Walk { k, v, steps } => write!(out, "{}", Walk { book, k, v, steps }),
+            Call::Hash(key) => {
+                let hash = fxhash::hash(key);
+                write!(out, "hash {hash} {}", fxhash::h2(hash))
+            }
+            Call::Bytes => write!(out, "{}", Hex(book)),
+            Call::Sum => write!(out, "{:016x}", self.sum()),
+        }
+    }
+
+    // The third buffer is lent to be written, so it is a copy. It is shown as it is afterwards.
+    fn insert(
+        &mut self,
+        k: usize,
+        v: usize,
+        key: &[u8],
+        value: &[u8],
+        old: &[u8],
+        out: &mut impl Write,
+    ) -> fmt::Result
+        requires { length old.now ≤ LINE_LIMIT }
+    {
+        let mut copy = [0u8; LINE_LIMIT];
+        let copy = &mut copy[..old.len()];
+        copy.copy_from_slice(old);
+        let inserted = insert(self.bytes.as_mut_slice(), k, v, key, value, copy);
+        write_answer(inserted.into(), out)?;
+        write!(out, " {}", Hex(copy))
     }
 }
 
-// The book ends with these bytes, which stand from `at` on.
-pub(crate) fn end_with(book: &mut [u8], len: usize, at: usize, content: &[u8]) -> Changed
-    requires { (len ≤ length book.old) × (at ≤ length book.old) }
-    ensures { result.len ≤ length book.old }
-{
-    if book.len() - at < content.len() {
-        return unchanged(len);
-    }
-    overwrite(book, at, content);
-    Changed {
-        len: at + content.len(),
-        is_done: true,
-    }
+fn write_answer(answer: Answer, out: &mut impl Write) -> fmt::Result {
+    write!(out, "{answer}")
 }
 
-pub(crate) fn fill_with(book: &mut [u8], len: usize, n: usize, byte: usize) -> Changed
-    requires { len ≤ length book.old }
-    ensures { result.len ≤ length book.old }
-{
-    if book.len() < n {
-        return unchanged(len);
+// The book's length after a change, if it was one that can be made.
+fn write_changed(len: Option<usize>, out: &mut impl Write) -> fmt::Result {
+    match len {
+        Some(len) => write!(out, "ok {len}"),
+        None => write!(out, "bad"),
     }
-    if 255 < byte {
-        return unchanged(len);
-    }
-    fill(&mut book[0..n], byte as u8);
-    Changed {
-        len: n,
-        is_done: true,
-    }
-}
-
-// Overwrites within the book.
-pub(crate) fn poke(book: &mut [u8], len: usize, at: usize, content: &[u8]) -> Changed
-    requires { len ≤ length book.old }
-    ensures { result.len ≤ length book.old }
-{
-    if len < at {
-        return unchanged(len);
-    }
-    if len - at < content.len() {
-        return unchanged(len);
-    }
-    overwrite(book, at, content);
-    Changed { len, is_done: true }
-}
-
-fn fnv_step(state: u64, byte: u8) -> u64 {
-    fxhash::wrapping_mul(state ^ (byte as u64), 0x100_0000_01b3)
-}
-
-// FNV-1a, 64 bits.
-fn fnv(bytes: &[u8]) -> u64 {
-    let mut state: u64 = 0xcbf2_9ce4_8422_2325;
-    let mut i = 0;
-    while i < bytes.len() {
-        state = fnv_step(state, bytes[i]);
-        i += 1;
-    }
-    state
-}
-
-pub(crate) fn say_sum(rt: &impl Print, book: &[u8], out: &mut [u8], used: usize) -> usize {
-    let mut digits = [0u8; 16];
-    let n = io::hex(fnv(book), 16, &mut digits);
-    say::text(rt, out, used, &digits[..n])
 }

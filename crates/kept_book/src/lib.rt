@@ -1,5 +1,4 @@
 // The book that a list of calls keeps between its lines, and the call of a line made on it.
 #![tactic(auto)]
 
-mod book;
-pub mod run;
+pub mod book;

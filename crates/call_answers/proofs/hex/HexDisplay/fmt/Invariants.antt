@@ -1,0 +1,11 @@
+-- The bytes so far are written.
+use Rattle.std.proofs.Common.{take}
+use Rattle.std.specs.Fmt.{HasWritten, IsPlainFormatter}
+use Rattle.std.specs.List.{flat_map}
+use Rattle.call_lines.specs.Hex.{hex_of_byte}
+use Rattle.call_answers.proofs.hex.HexDisplay.fmt.Given as goal
+
+abbrev pub invariant-loop-byte : goal.invariant-loop-byte
+invariant-loop-byte g l =
+    IsPlainFormatter l.initial.f
+    → HasWritten g.W.Write.write_str_gives l.initial.f (flat_map hex_of_byte (take l.byte-index l.byte-items)) l.f

@@ -1,9 +1,0 @@
--- Each turn writes one byte.
-use Rattle.std.proofs.Common.{◌-◌, ◌≤◌, length}
-use Rattle.call_answers.proofs.say.text.Given as goal
-
-abbrev pub invariant-loop-i : goal.invariant-loop-i
-invariant-loop-i g l = l.i ≤ length l.text
-
-abbrev pub decreases-loop-i : goal.decreases-loop-i
-decreases-loop-i g l = length l.text - l.i
