@@ -1,55 +1,42 @@
 -- What a contract reads of an `Answer`: what it is made of, and its words.
-use Rattle.std.specs.Prelude.{ℕ, List, ◌++◌, codes}
+use Rattle.std.specs.Prelude.{ℕ, List, ◌++◌, Option, Some, None, Result, Ok, Err, ⊤, codes}
 use Rattle.std.specs.Fmt.{decimal}
-use Rattle.memory_layout.specs.declared.init.Made.{Made}
-use Rattle.memory_layout.specs.declared.init.Made.TheVariants as made
+use Rattle.rules.specs.Rows as rows
+use Rattle.memory_layout.specs.declared.kinds.Slot.{Slot}
 use Rattle.memory_layout.specs.declared.refusal.Refusal.{Refusal}
-use Rattle.raw_slots.specs.declared.iter.Next.{Next}
-use Rattle.raw_slots.specs.declared.iter.Next.TheVariants as next
-use Rattle.raw_slots.specs.declared.open.Opened.{Opened}
-use Rattle.raw_slots.specs.declared.open.Opened.TheVariants as opened
+use Rattle.memory_layout.specs.Said.{said_refusal}
 use Rattle.raw_table.specs.declared.find.Found.{Found}
 use Rattle.raw_table.specs.declared.find.Found.TheVariants as found
 use Rattle.raw_table.specs.declared.insert.Inserted.{Inserted}
 use Rattle.raw_table.specs.declared.insert.Inserted.TheVariants as inserted
-use Rattle.book_check.specs.declared.Verdict.{Verdict}
-use Rattle.book_check.specs.declared.Verdict.TheVariants as verdict
 use Rattle.call_answers.specs.declared.answer.Answer.{Answer}
 use Rattle.call_answers.specs.declared.answer.Answer.TheVariants.{Fine, At, Absent, New, Replaced, Occupied, Done, Refused}
 
-abbrev pub answer_of_made : Made → Answer
-answer_of_made made.Fine = Fine
-answer_of_made (made.Refused refusal) = Refused refusal
+abbrev pub answer_of_done : Result ⊤ Refusal → Answer
+answer_of_done (Ok done) = Fine
+answer_of_done (Err refusal) = Refused refusal
 
-abbrev pub answer_of_opened : Opened → Answer
-answer_of_opened opened.Fine = Fine
-answer_of_opened (opened.Refused refusal) = Refused refusal
+abbrev pub answer_of_found : Result Found Refusal → Answer
+answer_of_found (Ok (found.At slot count)) = At slot count
+answer_of_found (Ok (found.Absent count)) = Absent count
+answer_of_found (Err refusal) = Refused refusal
 
-abbrev pub answer_of_verdict : Verdict → Answer
-answer_of_verdict verdict.Fine = Fine
-answer_of_verdict (verdict.Refused refusal) = Refused refusal
+abbrev pub answer_of_inserted : Result Inserted Refusal → Answer
+answer_of_inserted (Ok (inserted.New slot count)) = New slot count
+answer_of_inserted (Ok (inserted.Replaced slot count)) = Replaced slot count
+answer_of_inserted (Err refusal) = Refused refusal
 
-abbrev pub answer_of_found : Found → Answer
-answer_of_found (found.At slot count) = At slot count
-answer_of_found (found.Absent count) = Absent count
-answer_of_found (found.Refused refusal) = Refused refusal
-
-abbrev pub answer_of_inserted : Inserted → Answer
-answer_of_inserted (inserted.New slot count) = New slot count
-answer_of_inserted (inserted.Replaced slot count) = Replaced slot count
-answer_of_inserted (inserted.Refused refusal) = Refused refusal
-
-abbrev pub answer_of_next : Next → Answer
-answer_of_next (next.At slot control) = Occupied slot control
-answer_of_next next.Done = Done
-answer_of_next (next.Refused refusal) = Refused refusal
+abbrev pub answer_of_next : Result (Option (Slot × ℕ)) Refusal → Answer
+answer_of_next (Ok (Some at)) = Occupied at.0 at.1
+answer_of_next (Ok None) = Done
+answer_of_next (Err refusal) = Refused refusal
 
 -- two numbers with a space between
 abbrev pub pair_text : ℕ → ℕ → List ℕ
 pair_text m n = decimal m ++ (codes " " ++ decimal n)
 
 -- the row of a refusal and its four further numbers
-abbrev pub refusal_text : Refusal → List ℕ
+abbrev pub refusal_text : rows.Refusal → List ℕ
 refusal_text r = codes "no " ++ (decimal r.row ++ (codes " " ++ (decimal r.slot ++ (codes " " ++ (decimal r.expected ++ (codes " " ++ pair_text r.found r.count))))))
 
 -- an answer in the list's words
@@ -61,4 +48,4 @@ answer_text (New slot count) = codes "new " ++ pair_text slot.0 count
 answer_text (Replaced slot count) = codes "replaced " ++ pair_text slot.0 count
 answer_text (Occupied slot control) = codes "slot " ++ pair_text slot.0 control
 answer_text Done = codes "done"
-answer_text (Refused refusal) = refusal_text refusal
+answer_text (Refused refusal) = refusal_text (said_refusal refusal)

@@ -1,13 +1,10 @@
 // The answers of the library's calls, in the list's words.
 ghost use Rattle.std.specs.Prelude.{◌≡◌, Some};
-ghost use Rattle.call_answers.specs.Answer.{answer_of_made, answer_of_opened, answer_of_verdict, answer_of_found, answer_of_inserted, answer_of_next, answer_text};
+ghost use Rattle.call_answers.specs.Answer.{answer_of_done, answer_of_found, answer_of_inserted, answer_of_next, answer_text};
 
-use book_check::Verdict;
-use memory_layout::init::Made;
 use memory_layout::kinds::Slot;
+use memory_layout::numbers::RefusalNumbers;
 use memory_layout::refusal::Refusal;
-use raw_slots::iter::Next;
-use raw_slots::open::Opened;
 use raw_table::find::Found;
 use raw_table::insert::Inserted;
 use std::fmt;
@@ -25,71 +22,49 @@ pub enum Answer {
     Refused(Refusal),
 }
 
-impl From<Made> for Answer {
-    ghost from_gives = { λ made answer. answer ≡ answer_of_made made };
+impl From<Result<(), Refusal>> for Answer {
+    ghost from_gives = { λ done answer. answer ≡ answer_of_done done };
 
-    fn from(made: Made) -> Answer {
-        match made {
-            Made::Fine => Answer::Fine,
-            Made::Refused(refusal) => Answer::Refused(refusal),
+    fn from(done: Result<(), Refusal>) -> Answer {
+        match done {
+            Ok(()) => Answer::Fine,
+            Err(refusal) => Answer::Refused(refusal),
         }
     }
 }
 
-impl From<Opened> for Answer {
-    ghost from_gives = { λ opened answer. answer ≡ answer_of_opened opened };
-
-    fn from(opened: Opened) -> Answer {
-        match opened {
-            Opened::Fine => Answer::Fine,
-            Opened::Refused(refusal) => Answer::Refused(refusal),
-        }
-    }
-}
-
-impl From<Verdict> for Answer {
-    ghost from_gives = { λ verdict answer. answer ≡ answer_of_verdict verdict };
-
-    fn from(verdict: Verdict) -> Answer {
-        match verdict {
-            Verdict::Fine => Answer::Fine,
-            Verdict::Refused(refusal) => Answer::Refused(refusal),
-        }
-    }
-}
-
-impl From<Found> for Answer {
+impl From<Result<Found, Refusal>> for Answer {
     ghost from_gives = { λ found answer. answer ≡ answer_of_found found };
 
-    fn from(found: Found) -> Answer {
+    fn from(found: Result<Found, Refusal>) -> Answer {
         match found {
-            Found::At(slot, count) => Answer::At(slot, count),
-            Found::Absent(count) => Answer::Absent(count),
-            Found::Refused(refusal) => Answer::Refused(refusal),
+            Ok(Found::At(slot, count)) => Answer::At(slot, count),
+            Ok(Found::Absent(count)) => Answer::Absent(count),
+            Err(refusal) => Answer::Refused(refusal),
         }
     }
 }
 
-impl From<Inserted> for Answer {
+impl From<Result<Inserted, Refusal>> for Answer {
     ghost from_gives = { λ inserted answer. answer ≡ answer_of_inserted inserted };
 
-    fn from(inserted: Inserted) -> Answer {
+    fn from(inserted: Result<Inserted, Refusal>) -> Answer {
         match inserted {
-            Inserted::New(slot, count) => Answer::New(slot, count),
-            Inserted::Replaced(slot, count) => Answer::Replaced(slot, count),
-            Inserted::Refused(refusal) => Answer::Refused(refusal),
+            Ok(Inserted::New(slot, count)) => Answer::New(slot, count),
+            Ok(Inserted::Replaced(slot, count)) => Answer::Replaced(slot, count),
+            Err(refusal) => Answer::Refused(refusal),
         }
     }
 }
 
-impl From<Next> for Answer {
+impl From<Result<Option<(Slot, u8)>, Refusal>> for Answer {
     ghost from_gives = { λ next answer. answer ≡ answer_of_next next };
 
-    fn from(next: Next) -> Answer {
+    fn from(next: Result<Option<(Slot, u8)>, Refusal>) -> Answer {
         match next {
-            Next::At(slot, control) => Answer::Occupied(slot, control),
-            Next::Done => Answer::Done,
-            Next::Refused(refusal) => Answer::Refused(refusal),
+            Ok(Some((slot, control))) => Answer::Occupied(slot, control),
+            Ok(None) => Answer::Done,
+            Err(refusal) => Answer::Refused(refusal),
         }
     }
 }
@@ -107,13 +82,13 @@ impl fmt::Display for Answer {
             Answer::Occupied(Slot(slot), control) => write!(f, "slot {slot} {control}"),
             Answer::Done => write!(f, "done"),
             Answer::Refused(refusal) => {
-                let Refusal {
+                let RefusalNumbers {
                     row,
                     slot,
                     expected,
                     found,
                     count,
-                } = refusal;
+                } = refusal.into();
                 write!(f, "no {row} {slot} {expected} {found} {count}")
             }
         }

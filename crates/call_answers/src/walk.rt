@@ -1,6 +1,6 @@
 // A walk over a book's occupied slots.
 use crate::answer::Answer;
-use raw_slots::iter::{Next, next_occupied, step_at};
+use raw_slots::iter::{RawIter, next_occupied};
 use std::fmt;
 
 /// The first `steps` steps of a walk: each occupied slot with its control byte, and where the walk then stands.
@@ -15,21 +15,19 @@ pub struct Walk<'b> {
 impl fmt::Display for Walk<'_> {
     // A book that refuses any step refuses the first.
     fn fmt<W: fmt::Write>(&self, f: &mut fmt::Formatter<W>) -> fmt::Result {
-        let mut at = 0;
+        let mut walk = RawIter::new(self.book, self.k, self.v);
         if self.steps > 0 {
-            if let Next::Refused(refusal) = next_occupied(self.book, self.k, self.v, at) {
+            if let Err(refusal) = next_occupied(self.book, self.k, self.v, 0) {
                 return write!(f, "{}", Answer::Refused(refusal));
             }
         }
         write!(f, "walk")?;
         for _ in 0..self.steps {
-            let moved = step_at(self.book, self.k, self.v, at);
-            at = moved.next;
-            let Next::At(slot, control) = moved.answer else {
+            let Ok(Some((slot, control))) = walk.step() else {
                 break;
             };
             write!(f, " {}:{control}", slot.0)?;
         }
-        write!(f, " next {at}")
+        write!(f, " next {}", walk.next)
     }
 }
