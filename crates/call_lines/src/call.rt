@@ -4,7 +4,7 @@ ghost use Rattle.call_lines.specs.Call.{HasOldWithin, line_of};
 
 use crate::fields::Fields;
 
-/// A call, with what its line has behind the word.
+/// A call, with what its line has behind the word. `k` and `v` stand apart here as the library's calls take them.
 #[derive(Clone, Copy)]
 pub enum Call<'l> {
     Book(&'l [u8]),

@@ -164,7 +164,7 @@ impl Book {
         }
     }
 
-    // The third buffer is lent to be written, so it is a copy. It is shown as it is afterwards.
+    // The third buffer is lent to be written, and a call only reads its line: so it is a copy, in fixed memory. It is shown as it is afterwards.
     fn insert(
         &mut self,
         k: usize,
