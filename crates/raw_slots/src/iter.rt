@@ -2,7 +2,7 @@
 ghost use Rattle.std.specs.Prelude.{◌≡◌, ◌-◌, ◌<◌};
 ghost use Rattle.rules.specs.First.{numbers, first_of};
 ghost use Rattle.rules.specs.Calls.{next_says, next_answer};
-ghost use Rattle.memory_layout.specs.TableParts.{occupied_in};
+ghost use Rattle.memory_layout.specs.TableParts.{in_table, occupied_in};
 ghost use Rattle.raw_slots.specs.SaidIter.{said_occupied, said_next, stepped};
 
 use crate::slot::{is_occupied, lowest};
@@ -12,7 +12,7 @@ use memory_layout::table::Table;
 
 // The lowest occupied slot that is not below `from`, with its control byte.
 fn occupied_from(table: &Table, from: usize) -> Option<(Slot, u8)>
-    ensures { said_occupied result ≡ next_says table.now.bytes.now table.now.sizes.k table.now.sizes.v table.now.slots.n (first_of (occupied_in table.now) (numbers from (table.now.slots.n - from))) }
+    ensures { said_occupied result ≡ in_table table.now next_says (first_of (occupied_in table.now) (numbers from (table.now.slots.n - from))) }
 {
     let slot = lowest(from..table.slots.n, |slot| is_occupied(table, slot))?;
     let control = table.control_byte(slot);

@@ -4,6 +4,7 @@ ghost use Rattle.std.proofs.Math.Option.{some};
 ghost use Rattle.rules.specs.Rows.{is_zero, slot_fine, slot_row, slot_rows};
 ghost use Rattle.rules.specs.Calls.{open_answer};
 ghost use Rattle.memory_layout.specs.Said.{said_refusal, said_row, said_done};
+ghost use Rattle.memory_layout.specs.TableParts.{in_table};
 
 use crate::slot::{is_empty, key_tag, lowest};
 use memory_layout::kinds::Slot;
@@ -16,16 +17,17 @@ const SLOTS_TO_CHECK: usize = 10;
 // Whether each byte of a slot's key and value is 0.
 fn entry_zero(table: &Table, slot: Slot) -> bool
     requires { slot.0 < table.now.slots.n }
-    ensures { result ≡ is_zero table.now.bytes.now table.now.sizes.k table.now.sizes.v table.now.slots.n slot.0 }
+    ensures { result ≡ in_table table.now is_zero slot.0 }
 {
     let entry = table.entry(slot);
     entry.iter().all(|byte| *byte == 0)
 }
 
 // Whether a slot is as it should be: zero if empty, else with its key's tag.
+#[tactic(auto, unfolding(rules::specs::Rows::slot_fine))]
 fn slot_fine(table: &Table, slot: Slot) -> bool
     requires { slot.0 < table.now.slots.n }
-    ensures { result ≡ slot_fine table.now.bytes.now table.now.sizes.k table.now.sizes.v table.now.slots.n slot.0 }
+    ensures { result ≡ in_table table.now slot_fine slot.0 }
 {
     let control = table.control_byte(slot);
     if is_empty(control) {
@@ -36,9 +38,10 @@ fn slot_fine(table: &Table, slot: Slot) -> bool
 }
 
 // What rows 11 and 12 say of a slot at fault.
+#[tactic(auto, unfolding(rules::specs::Rows::slot_row, memory_layout::specs::Said::said_refusal))]
 fn slot_fault(table: &Table, slot: Slot) -> Refusal
     requires { slot.0 < table.now.slots.n }
-    ensures { some (said_refusal result) ≡ slot_row table.now.bytes.now table.now.sizes.k table.now.sizes.v table.now.slots.n (some slot.0) }
+    ensures { some (said_refusal result) ≡ in_table table.now slot_row (some slot.0) }
 {
     let found = table.control_byte(slot);
     if is_empty(found) {
@@ -56,7 +59,7 @@ fn slot_fault(table: &Table, slot: Slot) -> Refusal
 // Rows 11 and 12 over the n lowest slots.
 pub fn slot_rows(table: &Table, n: usize) -> Result<(), Refusal>
     requires { n ≤ table.now.slots.n }
-    ensures { said_row result ≡ slot_rows table.now.bytes.now table.now.sizes.k table.now.sizes.v table.now.slots.n n }
+    ensures { said_row result ≡ in_table table.now slot_rows n }
 {
     match lowest(0..n, |slot| !slot_fine(table, slot)) {
         Some(slot) => Err(slot_fault(table, slot)),
