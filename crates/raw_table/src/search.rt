@@ -80,24 +80,27 @@ fn search_from(table: Table, key: &[u8], h2: u8, from: ProbeSeq, before: usize) 
 {
     let slots = table.slots;
     let groups = slots.n / 8;
+    let mut answer = Spot::Full(groups);
     let mut ps = from;
-    for n in before..groups {
+    'search: for n in before..groups {
         let p = Position(ps.index);
         let query = query_at(&table, p, h2);
         let mut left = query.eq;
         while left != 0 {
             let slot = slots.slot_of(p, lowest_of(left));
             if holds(&table, slot, key) {
-                return Spot::Same(slot, n + 1);
+                answer = Spot::Same(slot, n + 1);
+                break 'search;
             }
             left = without_lowest(left);
         }
         if let Some(m) = query.first_empty() {
-            return Spot::Free(slots.slot_of(p, m), n + 1);
+            answer = Spot::Free(slots.slot_of(p, m), n + 1);
+            break 'search;
         }
         ps = ps.advance(slots);
     }
-    Spot::Full(groups)
+    answer
 }
 
 // Most searches end in the first group, at its first candidate or, where it has none, at an empty slot. That is told before any loop.
