@@ -5,6 +5,7 @@ ghost use Rattle.std.specs.Prelude.{◌≡◌, ◌+◌, ◌*◌, ◌%◌, ◌^�
 ghost use Rattle.rules.specs.Bytes.{le, part};
 ghost use Rattle.rules.specs.Hash.{rotate5, mixed, hash_of, tag};
 
+// This and the next stay functions, since docs/DECISIONS.md names them.
 pub fn rotate_left_5(x: u64) -> u64
     ensures { result ≡ rotate5 x }
 {

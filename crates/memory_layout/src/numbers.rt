@@ -1,4 +1,4 @@
-// A refusal as numbers: its row, and what the row tells; 0 where it tells nothing of a kind.
+// A refusal as the numbers that a host and a list of calls are told: its row, and what the row tells; 0 where it tells nothing of a kind.
 ghost use Rattle.std.specs.Prelude.{◌≡◌};
 ghost use Rattle.rules.specs.Rows.{refusal, fault_at};
 ghost use Rattle.memory_layout.specs.Said.{said_refusal, said_numbers};

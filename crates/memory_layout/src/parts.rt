@@ -3,7 +3,8 @@ ghost use Rattle.std.specs.Prelude.{◌≡◌, ◌+◌, ◌≤◌, length};
 ghost use Rattle.std.proofs.lemmas.List.Edits.{sets};
 ghost use Rattle.rules.specs.Bytes.{le_bytes};
 
-// The `width` lowest bytes of n are written from a place on, least byte first.
+// The `width` lowest bytes of n are written from a place on, least byte first. One loop serves every width: `to_le_bytes` is a method of each type, and
+// would want a law for each.
 pub fn put(bytes: &mut [u8], at: usize, width: usize, n: u64)
     requires { at + width ≤ length bytes.old }
     ensures { bytes.new ≡ sets bytes.old at (le_bytes width n) }

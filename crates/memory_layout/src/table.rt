@@ -1,4 +1,4 @@
-// A book that passed rows 1 to 10.
+// A book that passed rows 1 to 10. The calls take any bytes and any sizes, and begin by making a table of them.
 ghost use Rattle.std.specs.Prelude.{◌≡◌, ◌<◌, length, IfOk};
 ghost use Rattle.rules.specs.Layout.{total};
 

@@ -27,6 +27,8 @@ pub fn overwrite(dst: &mut [u8], at: usize, src: &[u8])
     dst[at..end].copy_from_slice(src);
 }
 
+// The writers take the lent bytes with their sizes, and no table: one that holds bytes to be written would owe its length again at each store.
+
 // A slot's control byte, and below 16 its mirror.
 pub fn set_control(book: &mut [u8], slot: Slot, sizes: EntrySizes, slots: SlotCount, h2: u8)
     requires { (length book.old ≡ total sizes.k sizes.v slots.n) × (slot.0 < slots.n) }

@@ -72,7 +72,8 @@ fn query_at(table: &Table, p: Position, h2: u8) -> GroupQuery
     )
 }
 
-// The search from a group on, those before it having decided nothing.
+// The search from a group on, those before it having decided nothing. It is called, and its table is a value: put in the place of its call, or lent
+// a table, it costs every search that ends in the first group some instructions more.
 #[inline(never)]
 fn search_from(table: Table, key: &[u8], h2: u8, from: ProbeSeq, before: usize) -> Spot
     requires { (h2 ≡ tag_of key.now) × (before ≤ table.slots.n / 8) × (from ≡ seq_at (start_of table.slots.n key.now) table.slots.n before) }
