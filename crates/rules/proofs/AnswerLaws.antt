@@ -1,7 +1,7 @@
 -- An answer, or a buffer, by rows of which the earlier ones are known: the first of them that applies decides, else the later ones.
 -- Assumes nothing.
-use mathlib.Core.Path.{◌≡◌, refl}
-use mathlib.Core.List.{List, [], ◌∷◌, ◌++◌}
+use mathlib.Core.Path.{◌≡◌}
+use mathlib.Core.List.{List, ◌++◌}
 use mathlib.Core.Option.{Option, none, some}
 use Rattle.rules.specs.First.{first_some}
 use Rattle.rules.specs.Rows.{Refusal}
@@ -16,9 +16,3 @@ module _ {A : Type 0} (refusing : Refusal → A) (accepting : A) where
   pub by_later : (rows later : List (Option Refusal)) → first_some rows ≡ none
       → by_rows (first_some (rows ++ later)) refusing accepting ≡ by_rows (first_some later) refusing accepting
   by_later rows later e = rw (first_later rows later e)
-
-  -- a last row, alone
-  pub by_last : (row : Option Refusal) → by_rows (first_some (row ∷ [])) refusing accepting ≡ by_rows row refusing accepting
-  unfolding first_some
-  by_last none = refl
-  by_last (some r) = refl

@@ -6,13 +6,12 @@ use mathlib.Core.Logic.{dite}
 use mathlib.Core.List.{List, [], ◌∷◌, ◌++◌}
 use Prim.Native.Nat.{ℕ, zero, suc, ◌+◌, ◌*◌, ◌/◌, ◌^◌, ◌≤◌, ◌<◌}
 use native.Mathlib.Nat.{add-zero, zero-add, mul-one, add_assoc, add-mul, mul_assoc, pow-suc}
-use native.Mathlib.Numerals.{add-one}
 use native.Mathlib.Omega.{arith}
 use native.Mathlib.Decide.{ℕ_discrete}
 use borrow.Author.Tests.{eqb-true, eq-eqb, ne_eqb}
 use lib.Dec.{lit<, eqb}
 use lib.ListN.{length, get_or, take, drop, length-take, length-drop}
-use lib.Seq.{get_or-take, get_or-drop, take-add, take_all, take-take, drop-drop, drop-cons, length-take-le, ext_get_or}
+use lib.Seq.{get_or-take, get_or-drop, take-add, take_all, take-take, drop-cons, length-take-le, ext_get_or}
 use Rattle.rules.specs.Bytes.{byte_at, part, le, le_bytes, same_bytes}
 use Rattle.rules.proofs.TestLaws.{both, and_false}
 
@@ -20,13 +19,6 @@ pub le_append : (xs ys : List ℕ) → le (xs ++ ys) ≡ le ys * 256 ^ length xs
 unfolding le
 le_append [] ys = sym (add-zero (le ys * 1) ∙ mul-one (le ys))
 le_append (x ∷ xs) ys = rw (le_append xs ys, pow-suc) (simp (add-mul, mul_assoc, add_assoc))
-
--- m + n bytes are the m first and the n after them
-pub part_add : (m n at : ℕ) (s : List ℕ) → at + m ≤ length s
-    → le (part (m + n) at s) ≡ le (part n (at + m) s) * 256 ^ m + le (part m at s)
-part_add m n at s h =
-    let fits : m ≤ length (drop at s) = simp length-drop (omega arith) in
-    rw (take-add, le_append, drop-drop, length-take-le m (drop at s) fits)
 
 -- a single byte is its own number
 pub part_one : (at : ℕ) (s : List ℕ) → at < length s → le (part 1 at s) ≡ byte_at s at
@@ -117,12 +109,6 @@ same_lengths [] [] n = absurd (n refl)
 same_lengths [] (y ∷ ys) n = refl
 same_lengths (x ∷ xs) [] n = refl
 same_lengths (x ∷ xs) (y ∷ ys) n = rw (same_lengths xs ys (λ e. n (ap suc e))) (and_false (eqb x y))
-
--- from a place on: the byte there, and what comes after it
-pub same_step : (xs ys : List ℕ) (i : ℕ) → i < length xs → i < length ys
-    → same_bytes (drop i xs) (drop i ys) ≡ eqb (byte_at xs i) (byte_at ys i) && same_bytes (drop (i + 1) xs) (drop (i + 1) ys)
-unfolding same_bytes
-same_step xs ys i h l = rw (drop-cons xs i 0 h, drop-cons ys i 0 l, add-one)
 
 -- ---- equality by words of w bytes
 

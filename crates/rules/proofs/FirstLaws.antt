@@ -1,18 +1,15 @@
 -- What the first of a list is, exactly: of a run of numbers the lowest that passes, of rows the first that applies.
 -- Assumes nothing.
 use mathlib.Core.Path.{◌≡◌, refl, sym, ap, ◌∙◌}
-use mathlib.Core.Bool.{Bool, true, false, ◌&&◌}
+use mathlib.Core.Bool.{Bool, true, false}
 use mathlib.Core.List.{List, [], ◌∷◌, ◌++◌}
 use mathlib.Core.Option.{Option, none, some}
 use Prim.Native.Nat.{ℕ, zero, suc, ◌+◌, ◌-◌, ◌≤◌, ◌<◌}
-use native.Mathlib.Nat.{sub-zero}
 use native.Mathlib.Numerals.{add-one}
 use native.Mathlib.Omega.{arith}
 use native.Mathlib.Decide.{ℕ_discrete}
 use mathlib.Core.Logic.{dite}
-use lib.ListN.{length, get_or, drop, replicate, drop_of_length-le}
-use lib.Seq.{drop-cons}
-use Rattle.rules.specs.Bytes.{byte_at}
+use lib.ListN.{length, get_or, replicate}
 use Rattle.rules.specs.First.{numbers, first_of, each_of, first_some}
 use Rattle.rules.proofs.TestLaws.{impossible}
 
@@ -151,9 +148,6 @@ module _ (test : ℕ → Bool) where
   abbrev pub Onward : ℕ → ℕ → Option ℕ
   Onward n i = first_of test (numbers i (n - i))
 
-  pub onward_start : (n : ℕ) → first_of test (numbers 0 n) ≡ Onward n 0
-  onward_start n = rw sub-zero
-
   pub onward_yes : (n i : ℕ) → i < n → test i ≡ true → Onward n i ≡ some i
   unfolding first_of numbers
   onward_yes n i h e = let g : n - i ≡ suc (n - (i + 1)) = omega arith in rw (g, e)
@@ -165,12 +159,3 @@ module _ (test : ℕ → Bool) where
   pub onward_end : (n i : ℕ) → n ≤ i → Onward n i ≡ none
   unfolding first_of numbers
   onward_end n i h = let z : n - i ≡ 0 = omega arith in rw z
-
-  -- whether each passes, from a place of a list on
-  pub each_step : (xs : List ℕ) (i : ℕ) → i < length xs → each_of test (drop i xs) ≡ test (byte_at xs i) && each_of test (drop (i + 1) xs)
-  unfolding each_of
-  each_step xs i h = rw (drop-cons xs i 0 h, add-one)
-
-  pub each_end : (xs : List ℕ) (i : ℕ) → length xs ≤ i → each_of test (drop i xs) ≡ true
-  unfolding each_of
-  each_end xs i h = rw (drop_of_length-le xs h)

@@ -6,9 +6,8 @@ use native.Mathlib.Omega.{arith}
 use borrow.Author.Tests.{le-leb, lt-leb}
 use lib.ListN.{length, drop, length-drop, drop_of_length-le}
 use lib.Seq.{drop-drop}
-use Rattle.rules.specs.Bytes.{byte_at, le, part}
+use Rattle.rules.specs.Bytes.{le, part}
 use Rattle.rules.specs.Hash.{mixed, chunks, eights, hash_of, tag_of}
-use Rattle.rules.proofs.BytesLaws.{part_one}
 
 module _ (w : ℕ) (ws : List ℕ) (h i : ℕ) (s : List ℕ) where
   -- w bytes remain from i on: the chunk goes in
@@ -50,23 +49,6 @@ module _ (s : List ℕ) where
   pub hash_of_8 : length s ≡ 8 → hash_of s ≡ mixed 0 (le (part 8 0 s)) % 2 ^ 32
   unfolding hash_of eights
   hash_of_8 e = rw e (ap (λ (n : ℕ). n % 2 ^ 32) (none_left _ 8 s (omega arith)))
-
-  pub hash_of_13 : length s ≡ 13 → hash_of s ≡ mixed (mixed (mixed 0 (le (part 8 0 s))) (le (part 4 8 s))) (byte_at s 12) % 2 ^ 32
-  unfolding hash_of eights chunks
-  hash_of_13 e =
-      let first = mixed 0 (le (part 8 0 s)) in
-      let next = mixed first (le (part 4 8 s)) in
-      rw e
-      (ap (λ (n : ℕ). n % 2 ^ 32)
-      (once_taken 4 (2 ∷ 1 ∷ []) first 8 s (omega arith)
-      ∙ once_left 2 (1 ∷ []) next 12 s (omega arith) (omega arith)
-      ∙ once_taken 1 [] next 12 s (omega arith)
-      ∙ ap (mixed next) (part_one 12 s (omega arith))))
-
-  pub hash_of_32 : length s ≡ 32
-      → hash_of s ≡ mixed (mixed (mixed (mixed 0 (le (part 8 0 s))) (le (part 8 8 s))) (le (part 8 16 s))) (le (part 8 24 s)) % 2 ^ 32
-  unfolding hash_of eights
-  hash_of_32 e = rw e (simp drop-drop (ap (λ (n : ℕ). n % 2 ^ 32) (none_left _ 32 s (omega arith))))
 
 -- a tag has seven bits
 pub tag_lt : (key : List ℕ) → tag_of key < 128

@@ -7,11 +7,9 @@ pub mod HashLaws
 pub mod GroupLaws
 pub mod ProbeLaws
 pub mod RowLaws
-pub mod EntryLaws
 pub mod SearchLaws
 pub mod CallLaws
 pub mod StoreLaws
 pub mod FreshLaws
 pub mod ExamplesHold
 pub mod AnswerLaws
-pub mod WalkLaws
