@@ -1,7 +1,7 @@
 // Iterating: the next occupied slot, and above it a walk that holds the lent table and its next slot.
 ghost use Rattle.std.specs.Prelude.{◌≡◌, ◌-◌, ◌<◌};
 ghost use Rattle.rules.specs.First.{numbers, first_of};
-ghost use Rattle.rules.specs.Calls.{next_says, next_answer};
+ghost use Rattle.rules.specs.Calls.{next_says, next_answer, step_to};
 ghost use Rattle.memory_layout.specs.TableParts.{in_table, occupied_in};
 ghost use Rattle.raw_slots.specs.SaidIter.{said_occupied, said_next, stepped};
 
@@ -40,6 +40,13 @@ pub struct RawIter<'a> {
     pub next: usize,
 }
 
+// A step's answer, and where the walk then stands.
+#[derive(Clone, Copy, Debug, PartialEq, Eq)]
+pub struct Moved {
+    pub answer: Result<Option<(Slot, u8)>, Refusal>,
+    pub next: usize,
+}
+
 impl<'a> RawIter<'a> {
     pub fn new(table: &'a [u8], k: usize, v: usize) -> RawIter<'a>
         ensures { (result.table ≡ table.entry) × (result.k ≡ k) × (result.v ≡ v) × (result.next ≡ 0) }
@@ -62,5 +69,22 @@ impl<'a> RawIter<'a> {
             self.next = slot.0 + 1;
         }
         Ok(answer)
+    }
+}
+
+// One step of a walk that stands at `at`, for a caller that keeps the place itself.
+pub fn step_at(book: &[u8], k: usize, v: usize, at: usize) -> Moved
+    ensures { (said_next result.answer ≡ next_answer book.now k v at) × (result.next ≡ step_to book.now k v at) }
+{
+    let mut walk = RawIter {
+        table: book,
+        k,
+        v,
+        next: at,
+    };
+    let answer = walk.step();
+    Moved {
+        answer,
+        next: walk.next,
     }
 }
