@@ -7,7 +7,7 @@ ghost use Rattle.memory_layout.specs.Said.{said_done};
 
 use crate::header::{CURRENT_FILE_FORMAT_VERSION, HEADER_TAG, sized};
 use crate::kinds::{EntrySizes, Position, SlotCount};
-use crate::parts::put;
+use crate::parts::{fill, put};
 use crate::refusal::Refusal;
 
 // The header's first 8 bytes, by the document's table: offset, bytes, content.
@@ -43,8 +43,8 @@ fn write_book(book: &mut [u8], sizes: EntrySizes, slots: SlotCount, items: u64, 
     let control = sizes.control_offset(Position(0), slots).0;
     let end = control + slots.n + 16;
     put_header(book, sizes, slots, items, load);
-    book[32..control].fill(0);
-    book[control..end].fill(255);
+    fill(&mut book[32..control], 0);
+    fill(&mut book[control..end], 255);
 }
 
 // Rows 1, 9 and 10 on the arguments, before anything is written.

@@ -1,7 +1,14 @@
 // What is written over a run of the lent bytes.
-ghost use Rattle.std.specs.Prelude.{◌≡◌, ◌+◌, ◌≤◌, length};
+ghost use Rattle.std.specs.Prelude.{◌≡◌, ◌+◌, ◌≤◌, length, replicate};
 ghost use Rattle.std.proofs.lemmas.List.Edits.{sets};
 ghost use Rattle.rules.specs.Bytes.{le_bytes};
+
+// Every byte of the part becomes `byte`.
+pub fn fill(part: &mut [u8], byte: u8)
+    ensures { part.new ≡ replicate (length part.old) byte }
+{
+    part.fill(byte);
+}
 
 // The `width` lowest bytes of n are written from a place on, least byte first. One loop serves every width: `to_le_bytes` is a method of each type, and
 // would want a law for each.

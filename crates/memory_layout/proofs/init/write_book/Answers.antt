@@ -18,12 +18,12 @@ unfolding fresh_book
 returns c =
     let m = c.control_offset-control.result.0 in
     let a = c.args in
-    let f = c.fill.new.self in
-    let g = c.fill-2.new.self in
+    let f = c.fill.new.part in
+    let g = c.fill-2.new.part in
     let n₁ : m - 32 ≡ a.slots.n * (a.sizes.k + a.sizes.v) = omega arith in
     let n₂ : m + a.slots.n + 16 - m ≡ a.slots.n + 16 = omega arith in
-    let e₁ : f ≡ replicate (a.slots.n * (a.sizes.k + a.sizes.v)) 0 = c.fill.ensures.after (λ y h. h) ∙ ap (λ (n : ℕ). replicate n 0) (sym c.fill-arg-1.given.1 ∙ n₁) in
-    let e₂ : g ≡ replicate (a.slots.n + 16) 255 = c.fill-2.ensures.after (λ y h. h) ∙ ap (λ (n : ℕ). replicate n 255) (sym c.fill-arg-2-1.given.1 ∙ n₂) in
+    let e₁ : f ≡ replicate (a.slots.n * (a.sizes.k + a.sizes.v)) 0 = c.fill.ensures ∙ ap (λ (n : ℕ). replicate n 0) (sym c.fill-arg-1.given.1 ∙ n₁) in
+    let e₂ : g ≡ replicate (a.slots.n + 16) 255 = c.fill-2.ensures ∙ ap (λ (n : ℕ). replicate n 255) (sym c.fill-arg-2-1.given.1 ∙ n₂) in
     let l : length f ≡ m - 32 = ap length e₁ ∙ length-replicate (a.slots.n * (a.sizes.k + a.sizes.v)) 0 ∙ sym n₁ in
     let e₀ : c.put_header.new.book ≡ header a.sizes.k a.sizes.v a.slots.n a.items a.load ++ drop 32 a.book.now = c.put_header.ensures in
     ap (λ (b : List ℕ). over (over b 32 m f) m (m + a.slots.n + 16) g) e₀
