@@ -18,13 +18,14 @@ pub enum Inserted {
     Replaced(Slot, usize),
 }
 
-// The bytes of `src` over those of `dst` from a place on.
+// The bytes of `src` over those of `dst` from a place on. Byte by byte: by `copy_from_slice` the archive would ask its host for `memmove`.
 pub fn overwrite(dst: &mut [u8], at: usize, src: &[u8])
     requires { at + length src.now ≤ length dst.old }
     ensures { dst.new ≡ sets dst.old at src.now }
 {
-    let end = at + src.len();
-    dst[at..end].copy_from_slice(src);
+    for i in 0..src.len() {
+        dst[at + i] = src[i];
+    }
 }
 
 // The writers take the lent bytes with their sizes, and no table: one that holds bytes to be written would owe its length again at each store.
@@ -75,7 +76,7 @@ pub fn replace(
 {
     let at = sizes.value_offset(slot).0;
     let end = at + sizes.v;
-    old.copy_from_slice(&book[at..end]);
+    overwrite(old, 0, &book[at..end]);
     overwrite(book, at, value);
 }
 

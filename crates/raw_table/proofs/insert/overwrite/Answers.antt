@@ -1,15 +1,22 @@
--- The part that is copied over is the run that the rules set. Assumes nothing.
-use mathlib.Core.Path.{◌≡◌, sym, ◌∙◌}
-use Prim.Native.Nat.{◌+◌, ◌-◌}
+-- What is left to be written, over what is there now, makes the whole. Assumes nothing.
+use mathlib.Core.Path.{refl, sym, ◌∙◌}
+use native.Mathlib.Nat.{add-zero}
 use native.Mathlib.Omega.{arith}
-use mathlib.Core.List.{append_assoc}
-use lib.ListN.{length, take, drop}
-use lib.Seq.{sets-eq, drop-drop}
+use lib.ListN.{length-set}
+use Rattle.raw_table.proofs.WriteLaws.{sets_step, sets_end}
 use Rattle.raw_table.proofs.insert.overwrite.Goals as goal
+
+pub loop-i-init : goal.loop-i-init
+loop-i-init c = (omega arith, refl, rw add-zero)
+
+pub loop-i-preserved : goal.loop-i-preserved
+loop-i-preserved c =
+    let a = c.args in
+    let l = c.loop-i in
+    (omega arith, simp length-set l.invariant.1, l.invariant.2 ∙ sets_step l.dst a.at a.src.now l.i c.loop-i-test.true)
 
 pub returns : goal.returns
 returns c =
     let a = c.args in
-    let n : a.at + length a.src.now - a.at ≡ length a.src.now = omega arith in
-    rw (n, c.copy_from_slice.ensures.after, drop-drop)
-    (sym (sets-eq a.src.now a.dst.now a.at c.requires ∙ append_assoc (take a.at a.dst.now) a.src.now (drop (a.at + length a.src.now) a.dst.now)))
+    let l = c.loop-i in
+    sym (l.invariant.2 ∙ sets_end l.dst a.at a.src.now l.i (omega arith))
