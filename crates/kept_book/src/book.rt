@@ -1,9 +1,9 @@
 // The book that is kept between the lines, and one line: the call that it is, made on that book.
-ghost use Rattle.std.specs.Prelude.{◌≡◌, ◌+◌, ◌≤◌, ◌↔◌, [], ◌++◌, length, replicate, IsSome, IfSome, OnSome, IfNone};
+ghost use Rattle.std.specs.Prelude.{◌≡◌, ℕ, ◌+◌, ◌≤◌, ◌↔◌, List, [], ◌++◌, length, take, replicate, IsSome, IfSome, OnSome, IfNone};
 ghost use Rattle.std.proofs.lemmas.List.Edits.{sets};
 ghost use Rattle.call_lines.specs.Call.{HasOldWithin};
+ghost use Rattle.kept_book.specs.declared.book.TheConstants.{BOOK_LIMIT};
 
-use arrayvec::ArrayVec;
 use book_check::check_book;
 use call_answers::answer::Answer;
 use call_answers::hex::Hex;
@@ -25,17 +25,19 @@ pub const BOOK_LIMIT: usize = 524_288;
 pub const LINE_LIMIT: usize = 131_072;
 
 /// The book that a list keeps.
+// No `ArrayVec`, which blanks what a shorter book leaves behind: `book 00` after a book of 524,288 bytes then costs 525,000 instructions in place of 627.
 #[derive(Drop)]
 pub struct Book {
-    bytes: ArrayVec<u8, BOOK_LIMIT>,
+    room: [u8; BOOK_LIMIT],
+    len: usize,
 }
 
 impl Model for Book {
-    ghost use Rattle.std.specs.Prelude.{ℕ, List};
-
     ghost Value = { List ℕ };
 
-    ghost view = { λ book. book.bytes.items };
+    ghost view = { λ book. take book.len book.room };
+
+    ghost invariant = { λ book. book.len ≤ BOOK_LIMIT };
 }
 
 impl Book {
@@ -44,7 +46,8 @@ impl Book {
         ensures { result ≡ [] }
     {
         Book {
-            bytes: ArrayVec::new(),
+            room: [0; BOOK_LIMIT],
+            len: 0,
         }
     }
 
@@ -55,11 +58,12 @@ impl Book {
         ensures len { IfSome result (λ len. len ≡ length self.new) }
         ensures refused { IfNone result (self.new ≡ self.old) }
     {
-        if self.bytes.capacity() < bytes.len() {
+        if BOOK_LIMIT < bytes.len() {
             return None;
         }
-        self.bytes.clear();
-        self.extend(bytes)
+        self.room[..bytes.len()].copy_from_slice(bytes);
+        self.len = bytes.len();
+        Some(self.len)
     }
 
     // These bytes behind those that it has.
@@ -69,8 +73,12 @@ impl Book {
         ensures len { IfSome result (λ len. len ≡ length self.new) }
         ensures refused { IfNone result (self.new ≡ self.old) }
     {
-        self.bytes.try_extend_from_slice(bytes).ok()?;
-        Some(self.bytes.len())
+        if BOOK_LIMIT - self.len < bytes.len() {
+            return None;
+        }
+        self.room[self.len..self.len + bytes.len()].copy_from_slice(bytes);
+        self.len += bytes.len();
+        Some(self.len)
     }
 
     fn fill(&mut self, len: usize, byte: u8) -> Option<usize>
@@ -79,13 +87,11 @@ impl Book {
         ensures len { IfSome result (λ len. len ≡ length self.new) }
         ensures refused { IfNone result (self.new ≡ self.old) }
     {
-        if self.bytes.capacity() < len {
+        if BOOK_LIMIT < len {
             return None;
         }
-        self.bytes.clear();
-        for _ in 0..len {
-            self.bytes.push(byte);
-        }
+        self.room[..len].fill(byte);
+        self.len = len;
         Some(len)
     }
 
@@ -96,19 +102,18 @@ impl Book {
         ensures len { IfSome result (λ len. len ≡ length self.new) }
         ensures refused { IfNone result (self.new ≡ self.old) }
     {
-        let len = self.bytes.len();
+        let len = self.len;
         if len < at || len - at < bytes.len() {
             return None;
         }
-        self.bytes.as_mut_slice()[at..at + bytes.len()].copy_from_slice(bytes);
+        self.room[at..at + bytes.len()].copy_from_slice(bytes);
         Some(len)
     }
 
     // FNV-1a, 64 bits.
     fn sum(&self) -> u64 {
         let step = |sum: u64, &byte| (sum ^ u64::from(byte)).wrapping_mul(0x100_0000_01b3);
-        self.bytes
-            .as_slice()
+        self.room[..self.len]
             .iter()
             .fold(0xcbf2_9ce4_8422_2325, step)
     }
@@ -126,7 +131,7 @@ impl Book {
     fn run(&mut self, call: Call<'_>, out: &mut impl Write) -> fmt::Result
         requires { HasOldWithin LINE_LIMIT call }
     {
-        let book = self.bytes.as_slice();
+        let book = &self.room[..self.len];
         match call {
             Call::Book(bytes) => write_changed(self.set(bytes), out),
             Call::More(bytes) => write_changed(self.extend(bytes), out),
@@ -139,7 +144,8 @@ impl Book {
                 items,
                 load,
             } => {
-                let made = init_in_place(self.bytes.as_mut_slice(), k, v, slots, items, load);
+                let book = &mut self.room[..self.len];
+                let made = init_in_place(book, k, v, slots, items, load);
                 write_answer(made.into(), out)
             }
             Call::Open { k, v } => write_answer(open(book, k, v).into(), out),
@@ -165,6 +171,8 @@ impl Book {
     }
 
     // The third buffer is lent to be written, and a call only reads its line: so it is a copy, in fixed memory. It is shown as it is afterwards.
+    // It is called: put in the place of its call, it has every line pay for that memory at entry, page by page.
+    #[inline(never)]
     fn insert(
         &mut self,
         k: usize,
@@ -179,7 +187,8 @@ impl Book {
         let mut copy = [0u8; LINE_LIMIT];
         let copy = &mut copy[..old.len()];
         copy.copy_from_slice(old);
-        let inserted = insert(self.bytes.as_mut_slice(), k, v, key, value, copy);
+        let book = &mut self.room[..self.len];
+        let inserted = insert(book, k, v, key, value, copy);
         write_answer(inserted.into(), out)?;
         write!(out, " {}", Hex(copy))
     }
