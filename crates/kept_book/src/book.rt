@@ -25,7 +25,7 @@ pub const BOOK_LIMIT: usize = 524_288;
 pub const LINE_LIMIT: usize = 131_072;
 
 /// The book that a list keeps.
-// No `ArrayVec`, which blanks what a shorter book leaves behind: `book 00` after a book of 524,288 bytes then costs 525,000 instructions in place of 627.
+// No `ArrayVec`, which blanks what a shorter book leaves behind: `book 00` after a book of 524,288 bytes then took 525,000 instructions, and takes 470.
 #[derive(Drop)]
 pub struct Book {
     room: [u8; BOOK_LIMIT],
